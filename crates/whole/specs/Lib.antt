@@ -1,3 +1,4 @@
 pub mod Difference
 pub mod Order
 pub mod Within
+pub mod Tells

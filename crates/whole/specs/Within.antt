@@ -5,7 +5,7 @@ use native.Mathlib.Nat.{div-le-self, mul-le-mul, lt-of-le-of-lt, le-trans}
 use native.Mathlib.Omega.{arith}
 use mathlib.Core.List.{List}
 use lib.ListN.{getD}
-use lib.Dec.{T, ltb, leb, ltb→lt, leb→le}
+use lib.Dec.{T, ltb, leb, ltb→lt, leb→le, lt→ltb}
 use lib.IntN.{ℤ, pos, negsuc, negℤ, natAbs, _+ℤ_, _-ℤ_, _*ℤ_, +ℤ-idl}
 use lib.Signed.{_≤ℤ_, _<ℤ_, mag, natAbs-le, quotZ}
 use mir.Syntax.{Width, w32, w64}
@@ -96,6 +96,14 @@ mag-abs (negsuc n) = omega arith
 pub fits : {w : Width} {z : ℤ} {bound : ℕ} → T (ltb bound (2 ^ hbits w)) → Within bound z → SFits w z
 fits {w} {z} {bound} t h = record { sfits = lt-of-le-of-lt (le-trans (mag-abs z) (h .abs)) (ltb→lt bound (2 ^ hbits w) t) }
 
+-- a number of a width is below half the width's power
+pub fits-below : {w : Width} {z : ℤ} → SFits w z → z <ℤ pos (2 ^ hbits w)
+fits-below {w} {z} f = below z (2 ^ hbits w) (f .sfits)
+  where
+    below : (z : ℤ) (n : ℕ) → mag z < n → z <ℤ pos n
+    below (pos k) n h = record { lt = lt→ltb k n h }
+    below (negsuc k) n h = record { lt = tt }
+
 -- any number of a width
 pub any-in : {w : Width} {z : ℤ} → SFits w z → Within (2 ^ hbits w) z
 any-in {w} {z} f = record { abs = natAbs-le z (f .sfits) }
@@ -111,6 +119,9 @@ pub read64 : {z : ℤ} {bound : ℕ} → T (ltb bound (2 ^ 63)) → Within bound
 read64 t h = back (fits t h)
 
 -- `-x` in the code is 0 − x
+pub neg-read32 : {z : ℤ} {bound : ℕ} → T (ltb bound (2 ^ 31)) → Within bound z → toZ w32 (ofZ w32 (pos 0 -ℤ z)) ≡ negℤ z
+neg-read32 {z} t h = ap (λ (y : ℤ). toZ w32 (ofZ w32 y)) (+ℤ-idl (negℤ z)) ∙ read32 t (neg-in h)
+
 pub neg-read64 : {z : ℤ} {bound : ℕ} → T (ltb bound (2 ^ 63)) → Within bound z → toZ w64 (ofZ w64 (pos 0 -ℤ z)) ≡ negℤ z
 neg-read64 {z} t h = ap (λ (y : ℤ). toZ w64 (ofZ w64 y)) (+ℤ-idl (negℤ z)) ∙ read64 t (neg-in h)
 

@@ -1,0 +1,5 @@
+pub mod Numbers
+pub mod Refusals
+pub mod Report
+pub mod Query
+pub mod Meets

@@ -1,0 +1,6 @@
+// Storm cells and queries as numbers, and the test whether a track meets a query.
+pub mod cell;
+pub mod minute;
+pub mod query;
+pub mod range;
+pub mod refusal;
