@@ -76,7 +76,7 @@ pub fn nearly(random: &mut Random) -> Case {
     until_built(random, try_nearly)
 }
 
-/// One edge more or less at the end, so that each edge drifts by a unit over the whole query.
+/// Each edge up to a unit off at the end, so that it drifts by that much over the whole query.
 fn drifting(random: &mut Random, mut beside: Beside) -> Beside {
     beside.last.0 += random.between(-1, 1);
     beside.last.1 = (beside.last.1 + random.between(-1, 1)).max(beside.last.0);

@@ -15,10 +15,10 @@ fn divisor(mut a: i32, mut b: i32) -> i32 {
     a
 }
 
-/// Below `q` and without a common divisor, so that the fraction's lowest denominator is `q`.
+/// From 1 to q - 1 and with no divisor in common with q, so that the fraction is in lowest terms.
 pub fn numerator(random: &mut Random, q: i32) -> i32 {
     loop {
-        let n = random.between(1, q.max(2) - 1);
+        let n = random.between(1, q - 1);
         if divisor(n, q) == 1 {
             return n;
         }
@@ -34,7 +34,7 @@ pub fn beyond(random: &mut Random, edge: i32, sign: i32) -> (i32, i32) {
     }
 }
 
-/// The instant `whole` + n/q after which, and not before, something is to happen.
+/// The instant `whole` + n/q, at which a cell reported at `minute` is to reach an edge.
 pub struct Moment {
     pub minute: i32,
     pub whole: i32,
