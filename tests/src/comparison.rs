@@ -1,0 +1,82 @@
+//! Puts the questions of each family to a library and to the exact computation.
+
+use crate::families::{Case, Family};
+use crate::question::{Kind, Question};
+use crate::random::Random;
+use crate::refusal::answer;
+use crate::tally::Tally;
+use std::collections::BTreeMap;
+
+/// How many questions each family asks.
+pub const QUESTIONS: u32 = 100_000;
+
+/// How many of them must have each answer that the family is meant to give.
+const FEWEST: u32 = 50;
+
+/// How many wrong answers of a family are printed in full.
+const SHOWN: u32 = 5;
+
+pub struct Comparison {
+    pub kind: Kind,
+    pub seed: u64,
+    pub ask: fn(&Question) -> i32,
+}
+
+impl Comparison {
+    pub fn run(&self, families: &[Family]) -> Tally {
+        let mut tally = Tally::default();
+        for (place, family) in families.iter().enumerate() {
+            let mut random = Random::seeded(self.seed + place as u64);
+            tally.check(self.family_agrees(family, &mut random));
+        }
+        tally
+    }
+
+    fn family_agrees(&self, family: &Family, random: &mut Random) -> bool {
+        let mut counts = BTreeMap::new();
+        let mut wrong = 0;
+        for _ in 0..QUESTIONS {
+            let case = (family.make)(random);
+            let computed = answer(self.kind, &case.question);
+            let answered = (self.ask)(&case.question);
+            *counts.entry(computed).or_insert(0) += 1;
+            if answered != computed || case.known.is_some_and(|known| known != computed) {
+                wrong += 1;
+                if wrong <= SHOWN {
+                    self.show(family, &case, answered, computed);
+                }
+            }
+        }
+        println!("{:?} {}: {}; {wrong} wrong", self.kind, family.name, in_words(&counts));
+        wrong == 0 && all_came_up(family, &counts)
+    }
+
+    fn show(&self, family: &Family, case: &Case, answered: i32, computed: i32) {
+        let numbers = &case.question.numbers()[..self.kind.numbers()];
+        let built = case.known.map_or(String::new(), |known| format!(", built for {known}"));
+        println!(
+            "WRONG {:?} {}: answered {answered}, computed {computed}{built}: {numbers:?}",
+            self.kind, family.name
+        );
+    }
+}
+
+/// A family that hardly gives an answer that it is meant to give tests less than it claims.
+fn all_came_up(family: &Family, counts: &BTreeMap<i32, u32>) -> bool {
+    let rare = |answer: &&i32| counts.get(answer).is_none_or(|&count| count < FEWEST);
+    let missing: Vec<_> = family.meant.iter().filter(rare).collect();
+    if !missing.is_empty() {
+        println!("FAILED {}: under {FEWEST} questions with the answer {missing:?}", family.name);
+    }
+    missing.is_empty()
+}
+
+fn in_words(counts: &BTreeMap<i32, u32>) -> String {
+    let word = |answer: i32| match answer {
+        0 => "no".to_string(),
+        1 => "yes".to_string(),
+        number => format!("refused by {number}"),
+    };
+    let parts: Vec<_> = counts.iter().map(|(&a, count)| format!("{} {count}", word(a))).collect();
+    parts.join(", ")
+}

@@ -1,0 +1,10 @@
+//! Checks of Bradawlet from outside: what the static libraries answer is compared with an
+//! exact computation that shares no code and no method with them.
+
+pub mod comparison;
+pub mod families;
+pub mod meeting;
+pub mod question;
+pub mod random;
+pub mod refusal;
+pub mod tally;
