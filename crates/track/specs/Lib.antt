@@ -3,3 +3,7 @@ pub mod Refusals
 pub mod Report
 pub mod Query
 pub mod Meets
+pub mod Cut
+pub mod Decides
+pub mod Hull
+pub mod Tracks

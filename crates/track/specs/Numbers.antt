@@ -32,3 +32,7 @@ minute-in h = from-zero (h .from) (h .to)
 
 pub kept-in : {x v t : ℤ} → IsPosition x → IsVelocity v → IsMinute t → IsKept (kept x v t)
 kept-in h k m = sub-in h (mul-in k (minute-in m))
+
+-- a kept edge of an entry
+abbrev pub IsEdge : ℤ → Type 0
+IsEdge = Within 2311840

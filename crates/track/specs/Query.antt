@@ -45,6 +45,10 @@ queryFrom start end xlow xhigh ylow yhigh xlow2 xhigh2 ylow2 yhigh2 = record {
   y = record { low = ylow; high = yhigh; low2 = ylow2; high2 = yhigh2 };
 }
 
+-- a window keeps to one rectangle
+abbrev pub windowFrom : ℤ → ℤ → ℤ → ℤ → ℤ → ℤ → Query
+windowFrom start end xlow xhigh ylow yhigh = queryFrom start end xlow xhigh ylow yhigh xlow xhigh ylow yhigh
+
 -- each answer's number and query: 0 and the query, or the refusal's number and zeros
 abbrev pub askedNumber : Asked → ℕ
 askedNumber (Taken q) = 0

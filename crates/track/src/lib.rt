@@ -1,5 +1,6 @@
 // Storm cells and queries as numbers, and the test whether a track meets a query.
 pub mod cell;
+pub mod interval;
 pub mod minute;
 pub mod query;
 pub mod range;

@@ -5,7 +5,7 @@ use crate::refusal::Refusal;
 ghost use lib.Dec.{T};
 ghost use lib.Signed.{_≤ℤ_, _<ℤ_};
 ghost use Rattle.whole.specs.Tells.{Tells};
-ghost use Rattle.track.specs.Query.{EdgesInRange, QueryInRange, Crossed, Asks, queryFrom};
+ghost use Rattle.track.specs.Query.{EdgesInRange, QueryInRange, Crossed, Asks, queryFrom, windowFrom};
 
 // A query's edges on one axis: low and high at its start, low2 and high2 at its end.
 pub struct Edges {
@@ -100,7 +100,7 @@ impl Query {
         ylow: i32,
         yhigh: i32,
     ) -> Asked
-        ensures { λ r. ⌜ Asks clock (end <ℤ start) (queryFrom start end xlow xhigh ylow yhigh xlow xhigh ylow yhigh) r ⌝ }
+        ensures { λ r. ⌜ Asks clock (end <ℤ start) (windowFrom start end xlow xhigh ylow yhigh) r ⌝ }
     {
         let x = Edges {
             low: xlow,

@@ -7,7 +7,7 @@ use native.Mathlib.Omega.{arith}
 use lib.Dec.{T, lt→ltb, nleb→lt}
 use lib.IntN.{ℤ, pos, negsuc, negℤ, _+ℤ_, _-ℤ_, _*ℤ_, *ℤ-comm, +ℤ-assoc, +ℤ-comm, negℤ-+ℤ, negℤ-negℤ}
 use lib.Signed.{_≤ℤ_, _<ℤ_, leZ, ltZ, leZ-yes, ltZ-yes, ltZ-no}
-use Rattle.whole.specs.Difference.{all2, all3, all4, difs, cross}
+use Rattle.whole.specs.Difference.{each, all2, all3, all4, difs, cross}
 
 -- ---- the ring
 pub *ℤ-assoc : (a b c : ℤ) → a *ℤ b *ℤ c ≡ a *ℤ (b *ℤ c)
@@ -30,6 +30,9 @@ neg-*ℤ = all2 _ λ _ _ _ _. simp difs (omega arith)
 
 pub *ℤ-neg : (a b : ℤ) → a *ℤ negℤ b ≡ negℤ (a *ℤ b)
 *ℤ-neg = all2 _ λ _ _ _ _. simp difs (omega arith)
+
+pub *ℤ-one : (a : ℤ) → a *ℤ pos 1 ≡ a
+*ℤ-one = each _ λ _ _. simp difs (omega arith)
 
 -- sorts both sides of an equation of sums of products, at any size: `simp ring`. It cancels nothing
 pub ruleset ring = (*ℤ-+ℤ, +ℤ-*ℤ, *ℤ-assoc, *ℤ-comm, *ℤ-left-comm, +ℤ-assoc, +ℤ-comm, +ℤ-left-comm, neg-*ℤ, *ℤ-neg, negℤ-+ℤ, negℤ-negℤ)
