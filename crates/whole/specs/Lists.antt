@@ -114,7 +114,9 @@ module _ {A : Type 0} where
   pub no-repeat-append : {l m : List A} → NoRepeat l → NoRepeat m → Apart l m → NoRepeat (l ++ m)
   no-repeat-append no-repeat-none once-m apart = once-m
   no-repeat-append (no-repeat-cons {x} {l} new once) once-m apart =
-      no-repeat-cons (λ h. ⊎-elim new (apart x (List·Memᴰ·head refl)) (List·Memᴰ·append-cases l h)) (no-repeat-append once once-m (λ y h. apart y (List·Memᴰ·tail h)))
+      no-repeat-cons
+      (λ h. ⊎-elim new (apart x (List·Memᴰ·head refl)) (List·Memᴰ·append-cases l h))
+      (no-repeat-append once once-m (λ y h. apart y (List·Memᴰ·tail h)))
 
   pub no-repeat-left : (l m : List A) → NoRepeat (l ++ m) → NoRepeat l
   no-repeat-left [] m once = no-repeat-none
@@ -130,17 +132,21 @@ module _ {A : Type 0} where
       ⊎-elim (λ e. new (Memᴰ·append-right l (Memᴰ·cast (sym e) k))) (λ n. no-repeat-apart l m once x n k) (List·Memᴰ·cases-cons h)
 
   -- ---- how long a list without repeats is
-  -- what stands in l and is not x stands beside x
+  -- what stands in a list with x, and is not x, stands beside it
   beside : {x y : A} (before after : List A) → (x ≡ y → ⊥) → y ∈ before ++ x ∷ after → y ∈ before ++ after
-  beside {x} {y} before after other m =
-      ⊎-elim (Memᴰ·append-left after) (λ h. Memᴰ·append-right before (⊎-elim (λ (e : y ≡ x). absurd (other (sym e))) (λ n. n) (List·Memᴰ·cases-cons h))) (List·Memᴰ·append-cases before m)
+  beside {x} {y} before after other m = ⊎-elim (Memᴰ·append-left after) (λ h. Memᴰ·append-right before (behind (List·Memᴰ·cases-cons h))) (List·Memᴰ·append-cases before m)
+    where
+      behind : (y ≡ x) ⊎ y ∈ after → y ∈ after
+      behind (inl e) = absurd (other (sym e))
+      behind (inr h) = h
 
   -- its elements find room in any list that has them all
   pub no-repeat-fits : {l m : List A} → NoRepeat l → l ⊆ m → length l ≤ length m
   no-repeat-fits no-repeat-none has = omega arith
   no-repeat-fits {m} (no-repeat-cons {x} {l} new once) has = fit (cut-at (has x (List·Memᴰ·head refl))) (λ rest. no-repeat-fits {m = rest} once)
     where
-      fit : (before : List A) × (after : List A) × (m ≡ before ++ x ∷ after) → ((rest : List A) → l ⊆ rest → length l ≤ length rest) → suc (length l) ≤ length m
+      fit : (before : List A) × (after : List A) × (m ≡ before ++ x ∷ after) → ((rest : List A) → l ⊆ rest → length l ≤ length rest)
+          → suc (length l) ≤ length m
       fit c fits =
           let before = c .0 in
           let after = c .1 in
