@@ -1,0 +1,94 @@
+-- The ranges in which the meeting test's products fit, and that its steps keep them.
+use mathlib.Core.List.{List, [], _∷_}
+use mathlib.Core.Bool.{Bool, true, false, cond}
+use mathlib.Core.Path.{_≡_, refl}
+use Prim.Native.Nat.{ℕ, _^_}
+use lib.IntN.{ℤ, pos, negℤ, _+ℤ_, _-ℤ_, _*ℤ_}
+use lib.Signed.{_≤ℤ_, _<ℤ_, ltZ, leZ-yes}
+use lib.ListN.{getD}
+use Rattle.whole.specs.Order.{ltZ-true, ltZ-false}
+use Rattle.whole.specs.Within.{Within, neg-in, add-in, sub-in, mul-in, lit-in, widen}
+use Rattle.track.specs.Numbers.{IsPosition, IsVelocity, IsMinute, IsEdge, IsKept, IsIdentifier, minute-in}
+use Rattle.track.specs.Query.{EdgesInRange, QueryInRange}
+use Rattle.track.specs.Meets.{Row, Bounds, low, high, lowVelocity, highVelocity, span, cellBounds}
+use Rattle.track.specs.Cut.{Proper, cutTo, cut-law, startsAt, endsAt, never}
+use Rattle.track.specs.Decides.{gapAt, gapBy, alongTo, wholeOf, meetingOf}
+use Rattle.track.specs.declared.interval.Interval.{Interval}
+use Rattle.track.specs.declared.cell.Cell.{Cell}
+use Rattle.track.specs.declared.query.Edges.{Edges}
+use Rattle.track.specs.declared.query.Query.{Query}
+
+pub record RowInRange (r : Row) : Type 0 where
+  pub low-in : IsEdge (low r)
+  pub high-in : IsEdge (high r)
+  pub low-velocity-in : IsVelocity (lowVelocity r)
+  pub high-velocity-in : IsVelocity (highVelocity r)
+
+pub record BoundsInRange (b : Bounds) : Type 0 where
+  pub x-in : RowInRange (getD b 0 [])
+  pub y-in : RowInRange (getD b 1 [])
+
+-- the ranges of a kept cell
+pub record CellInRange (c : Cell) : Type 0 where
+  pub identifier : IsIdentifier (c .id)
+  pub x-in : IsKept (c .x)
+  pub vx-in : IsVelocity (c .vx)
+  pub y-in : IsKept (c .y)
+  pub vy-in : IsVelocity (c .vy)
+  pub expiry-in : IsMinute (c .expiry .at)
+
+pub cell-bounds-in : {c : Cell} → CellInRange c → BoundsInRange (cellBounds c)
+cell-bounds-in h = record {
+  x-in = record { low-in = widen tt (h .x-in); high-in = widen tt (h .x-in); low-velocity-in = h .vx-in; high-velocity-in = h .vx-in };
+  y-in = record { low-in = widen tt (h .y-in); high-in = widen tt (h .y-in); low-velocity-in = h .vy-in; high-velocity-in = h .vy-in };
+}
+
+-- ends that are fractions of numbers small enough for the products of a cut
+pub record Small (i : Interval) : Type 0 where
+  pub lo-in : Within (2 ^ 32) (i .lo)
+  pub lod-in : Within (2 ^ 20) (i .lod)
+  pub hi-in : Within (2 ^ 32) (i .hi)
+  pub hid-in : Within (2 ^ 20) (i .hid)
+
+small-if : (f : Bool) {i j : Interval} → Small i → Small j → Small (cond f i j)
+small-if true h k = h
+small-if false h k = k
+
+-- a cut's new end is the line's own numbers, so however many cuts follow the ends stay small
+pub cut-small : (i : Interval) (a b : ℤ) → Small i → Within (2 ^ 32) a → Within (2 ^ 20) b → Small (cutTo i a b)
+unfolding cutTo
+cut-small i a b s ha hb =
+    small-if (ltZ (pos 0) b)
+    (small-if (ltZ (i .lo *ℤ b +ℤ a *ℤ i .lod) (pos 0))
+    (record { lo-in = neg-in ha; lod-in = hb; hi-in = s .hi-in; hid-in = s .hid-in })
+    s)
+    (small-if (ltZ b (pos 0))
+    (small-if (ltZ (a *ℤ i .hid +ℤ b *ℤ i .hi) (pos 0))
+    (record { lo-in = s .lo-in; lod-in = s .lod-in; hi-in = ha; hid-in = neg-in hb })
+    s)
+    (small-if (ltZ a (pos 0))
+    (record { lo-in = lit-in 1 tt; lod-in = lit-in 1 tt; hi-in = lit-in 0 tt; hid-in = lit-in 1 tt })
+    s))
+
+pub gap-at-in : {start span a b at : ℤ} → Within 1440 start → Within 1440 span → IsPosition a → IsPosition b → IsEdge at → Within (2 ^ 32) (gapAt start span a b at)
+gap-at-in s d ha hb h = widen tt (sub-in (mul-in d (sub-in ha h)) (mul-in (sub-in hb ha) s))
+
+pub gap-by-in : {span a b v : ℤ} → Within 1440 span → IsPosition a → IsPosition b → IsVelocity v → Within (2 ^ 20) (gapBy span a b v)
+gap-by-in d ha hb h = widen tt (sub-in (sub-in hb ha) (mul-in d h))
+
+module _ (start span : ℤ) (e : Edges) (r : Row) (i : Interval) (s : Within 1440 start) (d : Within 1440 span) (he : EdgesInRange e) (hr : RowInRange r) (hi : Small i) where
+  pub under-small : Small (cutTo i (gapAt start span (e .high) (e .high2) (low r)) (gapBy span (e .high) (e .high2) (lowVelocity r)))
+  under-small = cut-small i _ _ hi (gap-at-in s d (he .high-in) (he .high2-in) (hr .low-in)) (gap-by-in d (he .high-in) (he .high2-in) (hr .low-velocity-in))
+
+  pub along-small : Small (alongTo start span e r i)
+  unfolding alongTo
+  along-small =
+      cut-small _ _ _ under-small
+      (neg-in (gap-at-in s d (he .low-in) (he .low2-in) (hr .high-in)))
+      (neg-in (gap-by-in d (he .low-in) (he .low2-in) (hr .high-velocity-in)))
+
+pub whole-small : {k : Query} → QueryInRange k → Small (wholeOf k)
+whole-small h = record { lo-in = widen tt (minute-in (h .start-in)); lod-in = lit-in 1 tt; hi-in = widen tt (minute-in (h .end-in)); hid-in = lit-in 1 tt }
+
+pub span-in : {k : Query} → QueryInRange k → Within 1440 (span k)
+span-in h = ?

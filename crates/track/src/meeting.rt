@@ -1,0 +1,59 @@
+use crate::cell::Cell;
+use crate::interval::Interval;
+use crate::minute::Minute;
+use crate::query::Query;
+use whole::wide;
+ghost use mathlib.Core.Path.{_≡_};
+ghost use Rattle.whole.specs.Tells.{Tells};
+ghost use Rattle.track.specs.Numbers.{IsMinute};
+ghost use Rattle.track.specs.Query.{QueryInRange};
+ghost use Rattle.track.specs.Meets.{span, Meets, CellMeets, cellBounds};
+ghost use Rattle.track.specs.Decides.{meetingOf};
+ghost use Rattle.track.specs.Small.{BoundsInRange, CellInRange};
+
+// The minutes over which the query's rectangle moves, and 1 where its start is its end.
+fn span(k: Query) -> i64
+    requires { ⌜ QueryInRange k ⌝ }
+    ensures { λ r. ⌜ r ≡ span k ⌝ }
+{
+    let minutes = wide(k.end.at) - wide(k.start.at);
+    if minutes < 1 { 1 } else { minutes }
+}
+
+// The instants of the query at which the bounds touch its rectangle; the low end is the earliest.
+pub fn meeting(b: [[i32; 4]; 2], k: Query) -> Interval
+    requires { ⌜ (BoundsInRange b) × (QueryInRange k) ⌝ }
+    ensures { λ r. ⌜ r ≡ meetingOf b k ⌝ }
+{
+    let start = wide(k.start.at);
+    let whole = Interval {
+        lo: start,
+        lod: 1,
+        hi: wide(k.end.at),
+        hid: 1,
+    };
+    let minutes = span(k);
+    whole.along(k.x, b[0], start, minutes).along(k.y, b[1], start, minutes)
+}
+
+// Whether what has these bounds and lives until `expiry` meets the query.
+pub fn meets(b: [[i32; 4]; 2], expiry: i32, k: Query) -> bool
+    requires { ⌜ (BoundsInRange b) × (IsMinute expiry) × (QueryInRange k) ⌝ }
+    ensures { λ r. ⌜ Tells r (Meets b expiry k) ⌝ }
+{
+    meeting(b, k).lives(expiry)
+}
+
+// A cell is a point: on each axis one edge and one velocity.
+pub fn cell_bounds(c: Cell) -> [[i32; 4]; 2]
+    ensures { λ r. ⌜ r ≡ cellBounds c ⌝ }
+{
+    [[c.x, c.x, c.vx, c.vx], [c.y, c.y, c.vy, c.vy]]
+}
+
+pub fn cell_meets(c: Cell, k: Query) -> bool
+    requires { ⌜ (CellInRange c) × (QueryInRange k) ⌝ }
+    ensures { λ r. ⌜ Tells r (CellMeets c k) ⌝ }
+{
+    meets(cell_bounds(c), c.expiry.at, k)
+}
