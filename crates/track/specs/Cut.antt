@@ -194,6 +194,32 @@ module _ (i : Interval) (a b : ℤ) (s : Proper i) where
       by true e = rising (ltZ-true e) _ refl
       by false e = not-rising (ltZ-false e) _ refl
 
+-- ---- the ways through the code
+module _ (i : Interval) (a b : ℤ) where
+  pub rising-later : ltZ (pos 0) b ≡ true → ltZ (i .lo *ℤ b +ℤ a *ℤ i .lod) (pos 0) ≡ true → startsAt i (negℤ a) b ≡ cutTo i a b
+  unfolding cutTo
+  rising-later e f = rw (e, f)
+
+  pub rising-same : ltZ (pos 0) b ≡ true → ltZ (i .lo *ℤ b +ℤ a *ℤ i .lod) (pos 0) ≡ false → i ≡ cutTo i a b
+  unfolding cutTo
+  rising-same e f = rw (e, f)
+
+  pub falling-earlier : ltZ (pos 0) b ≡ false → ltZ b (pos 0) ≡ true → ltZ (a *ℤ i .hid +ℤ b *ℤ i .hi) (pos 0) ≡ true → endsAt i a (negℤ b) ≡ cutTo i a b
+  unfolding cutTo
+  falling-earlier e f g = rw (e, f, g)
+
+  pub falling-same : ltZ (pos 0) b ≡ false → ltZ b (pos 0) ≡ true → ltZ (a *ℤ i .hid +ℤ b *ℤ i .hi) (pos 0) ≡ false → i ≡ cutTo i a b
+  unfolding cutTo
+  falling-same e f g = rw (e, f, g)
+
+  pub level-never : ltZ (pos 0) b ≡ false → ltZ b (pos 0) ≡ false → ltZ a (pos 0) ≡ true → never ≡ cutTo i a b
+  unfolding cutTo
+  level-never e f g = rw (e, f, g)
+
+  pub level-same : ltZ (pos 0) b ≡ false → ltZ b (pos 0) ≡ false → ltZ a (pos 0) ≡ false → i ≡ cutTo i a b
+  unfolding cutTo
+  level-same e f g = rw (e, f, g)
+
 -- ---- an instant of the interval that is in life
 -- the low end is the earliest instant, and the life only bounds from above: so it is enough to look there
 unfoldable pub livesIn : Interval → ℤ → Bool
@@ -233,3 +259,11 @@ lives-law i expiry s = by (leZ (i .lo *ℤ i .hid) (i .hi *ℤ i .lod)) refl
     by false e =
         tells-false λ x.
         clashℤ (leZ-false e) (in-order (i .lo) (i .lod) (i .hi) (i .hid) (x .at) (s .lod-positive) (s .hid-positive) (x .inside .after) (x .inside .until))
+
+pub lives-in-order : (i : Interval) (expiry : ℤ) → leZ (i .lo *ℤ i .hid) (i .hi *ℤ i .lod) ≡ true → leZ (i .lo) (expiry *ℤ i .lod) ≡ livesIn i expiry
+unfolding livesIn
+lives-in-order i expiry e = rw e
+
+pub lives-never : (i : Interval) (expiry : ℤ) → leZ (i .lo *ℤ i .hid) (i .hi *ℤ i .lod) ≡ false → false ≡ livesIn i expiry
+unfolding livesIn
+lives-never i expiry e = rw e

@@ -3,7 +3,7 @@ use mathlib.Core.Path.{_≡_, ap, _∙_}
 use mathlib.Core.Bool.{Bool, true, false, cond}
 use mathlib.Core.List.{[]}
 use lib.IntN.{ℤ, pos, negℤ, _+ℤ_, _-ℤ_, _*ℤ_}
-use lib.Signed.{_≤ℤ_, leZ-yes}
+use lib.Signed.{_≤ℤ_, ltZ, leZ-yes}
 use lib.ListN.{getD}
 use native.Mathlib.Omega.{arith}
 use Rattle.whole.specs.Difference.{all2, all4, difs}
@@ -12,6 +12,7 @@ use Rattle.whole.specs.Tells.{Tells, tells-as, decided}
 use Rattle.track.specs.Meets.{Instant, InQuery, Row, low, high, lowVelocity, highVelocity, span, edgeAt, movedAt, Touches, Bounds, Meets}
 use Rattle.track.specs.Cut.{Inside, Proper, Above, Cuts, cutTo, cut-law, livesIn, lives-law, SomeIn}
 use Rattle.track.specs.declared.interval.Interval.{Interval}
+use Rattle.track.specs.declared.interval.Line.{Line}
 use Rattle.track.specs.declared.query.Edges.{Edges}
 use Rattle.track.specs.declared.query.Query.{Query}
 
@@ -23,6 +24,12 @@ gapAt start span a b at = span *ℤ (a -ℤ at) -ℤ (b -ℤ a) *ℤ start
 
 abbrev pub gapBy : ℤ → ℤ → ℤ → ℤ → ℤ
 gapBy span a b v = (b -ℤ a) -ℤ span *ℤ v
+
+abbrev pub gapLine : ℤ → ℤ → ℤ → ℤ → ℤ → ℤ → Line
+gapLine start span a b at v = record { a = gapAt start span a b at; b = gapBy span a b v }
+
+abbrev pub turnedLine : Line → Line
+turnedLine l = record { a = negℤ (l .a); b = negℤ (l .b) }
 
 -- the instants of i at which the row touches the edges: the high edge above the row's low one, the low edge not above its high one
 unfoldable pub alongTo : ℤ → ℤ → Edges → Row → Interval → Interval
@@ -41,6 +48,15 @@ meetingOf b k = alongTo (k .start .at) (span k) (k .y) (getD b 1 []) (alongTo (k
 
 unfoldable pub meetsIn : Bounds → ℤ → Query → Bool
 meetsIn b expiry k = livesIn (meetingOf b k) expiry
+
+-- ---- the ways through the span's code
+pub span-one : (k : Query) → ltZ (k .end .at -ℤ k .start .at) (pos 1) ≡ true → pos 1 ≡ span k
+unfolding span
+span-one k e = rw e
+
+pub span-minutes : (k : Query) → ltZ (k .end .at -ℤ k .start .at) (pos 1) ≡ false → k .end .at -ℤ k .start .at ≡ span k
+unfolding span
+span-minutes k e = rw e
 
 -- ---- one axis
 gap-line : (s start a b at v p q : ℤ) → (a *ℤ s *ℤ q +ℤ (b -ℤ a) *ℤ (p -ℤ start *ℤ q)) -ℤ s *ℤ (at *ℤ q +ℤ v *ℤ p) ≡ gapAt start s a b at *ℤ q +ℤ gapBy s a b v *ℤ p

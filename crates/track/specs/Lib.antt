@@ -5,5 +5,6 @@ pub mod Query
 pub mod Meets
 pub mod Cut
 pub mod Decides
+pub mod Small
 pub mod Hull
 pub mod Tracks

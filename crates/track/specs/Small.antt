@@ -6,14 +6,17 @@ use Prim.Native.Nat.{ℕ, _^_}
 use lib.IntN.{ℤ, pos, negℤ, _+ℤ_, _-ℤ_, _*ℤ_}
 use lib.Signed.{_≤ℤ_, _<ℤ_, ltZ, leZ-yes}
 use lib.ListN.{getD}
-use Rattle.whole.specs.Order.{ltZ-true, ltZ-false}
-use Rattle.whole.specs.Within.{Within, neg-in, add-in, sub-in, mul-in, lit-in, widen}
+use native.Mathlib.Omega.{arith}
+use Rattle.whole.specs.Difference.{all2, difs}
+use Rattle.whole.specs.Order.{ltZ-false, ≤ℤ-trans}
+use Rattle.whole.specs.Within.{Within, neg-in, add-in, sub-in, mul-in, lit-in, widen, from-zero}
 use Rattle.track.specs.Numbers.{IsPosition, IsVelocity, IsMinute, IsEdge, IsKept, IsIdentifier, minute-in}
 use Rattle.track.specs.Query.{EdgesInRange, QueryInRange}
 use Rattle.track.specs.Meets.{Row, Bounds, low, high, lowVelocity, highVelocity, span, cellBounds}
 use Rattle.track.specs.Cut.{Proper, cutTo, cut-law, startsAt, endsAt, never}
-use Rattle.track.specs.Decides.{gapAt, gapBy, alongTo, wholeOf, meetingOf}
+use Rattle.track.specs.Decides.{gapAt, gapBy, gapLine, turnedLine, alongTo, wholeOf, meetingOf}
 use Rattle.track.specs.declared.interval.Interval.{Interval}
+use Rattle.track.specs.declared.interval.Line.{Line}
 use Rattle.track.specs.declared.cell.Cell.{Cell}
 use Rattle.track.specs.declared.query.Edges.{Edges}
 use Rattle.track.specs.declared.query.Query.{Query}
@@ -50,6 +53,10 @@ pub record Small (i : Interval) : Type 0 where
   pub hi-in : Within (2 ^ 32) (i .hi)
   pub hid-in : Within (2 ^ 20) (i .hid)
 
+pub record SmallLine (l : Line) : Type 0 where
+  pub a-in : Within (2 ^ 32) (l .a)
+  pub b-in : Within (2 ^ 20) (l .b)
+
 small-if : (f : Bool) {i j : Interval} → Small i → Small j → Small (cond f i j)
 small-if true h k = h
 small-if false h k = k
@@ -76,19 +83,37 @@ gap-at-in s d ha hb h = widen tt (sub-in (mul-in d (sub-in ha h)) (mul-in (sub-i
 pub gap-by-in : {span a b v : ℤ} → Within 1440 span → IsPosition a → IsPosition b → IsVelocity v → Within (2 ^ 20) (gapBy span a b v)
 gap-by-in d ha hb h = widen tt (sub-in (sub-in hb ha) (mul-in d h))
 
-module _ (start span : ℤ) (e : Edges) (r : Row) (i : Interval) (s : Within 1440 start) (d : Within 1440 span) (he : EdgesInRange e) (hr : RowInRange r) (hi : Small i) where
-  pub under-small : Small (cutTo i (gapAt start span (e .high) (e .high2) (low r)) (gapBy span (e .high) (e .high2) (lowVelocity r)))
-  under-small = cut-small i _ _ hi (gap-at-in s d (he .high-in) (he .high2-in) (hr .low-in)) (gap-by-in d (he .high-in) (he .high2-in) (hr .low-velocity-in))
+pub gap-small : {start span a b at v : ℤ} → Within 1440 start → Within 1440 span → IsPosition a → IsPosition b → IsEdge at → IsVelocity v → SmallLine (gapLine start span a b at v)
+gap-small s d ha hb h k = record { a-in = gap-at-in s d ha hb h; b-in = gap-by-in d ha hb k }
 
-  pub along-small : Small (alongTo start span e r i)
-  unfolding alongTo
-  along-small =
-      cut-small _ _ _ under-small
-      (neg-in (gap-at-in s d (he .low-in) (he .low2-in) (hr .high-in)))
-      (neg-in (gap-by-in d (he .low-in) (he .low2-in) (hr .high-velocity-in)))
+pub turned-small : {l : Line} → SmallLine l → SmallLine (turnedLine l)
+turned-small h = record { a-in = neg-in (h .a-in); b-in = neg-in (h .b-in) }
+
+pub along-small : (start span : ℤ) (e : Edges) (r : Row) (i : Interval) → Within 1440 start → Within 1440 span → EdgesInRange e → RowInRange r → Small i → Small (alongTo start span e r i)
+unfolding alongTo
+along-small start span e r i s d he hr hi =
+    let under = gap-small s d (he .high-in) (he .high2-in) (hr .low-in) (hr .low-velocity-in) in
+    let over = turned-small (gap-small s d (he .low-in) (he .low2-in) (hr .high-in) (hr .high-velocity-in)) in
+    cut-small _ _ _ (cut-small i _ _ hi (under .a-in) (under .b-in)) (over .a-in) (over .b-in)
 
 pub whole-small : {k : Query} → QueryInRange k → Small (wholeOf k)
 whole-small h = record { lo-in = widen tt (minute-in (h .start-in)); lod-in = lit-in 1 tt; hi-in = widen tt (minute-in (h .end-in)); hid-in = lit-in 1 tt }
 
+-- between two minutes there are at most 1,440
+apart-below : (a b : ℤ) → pos 0 ≤ℤ a → b ≤ℤ pos 1440 → (b -ℤ a) ≤ℤ pos 1440
+apart-below = all2 _ λ _ _ _ _. simp difs (omega arith)
+
 pub span-in : {k : Query} → QueryInRange k → Within 1440 (span k)
-span-in h = ?
+unfolding span
+span-in {k} h = by (ltZ (k .end .at -ℤ k .start .at) (pos 1)) refl
+  where
+    by : (f : Bool) → ltZ (k .end .at -ℤ k .start .at) (pos 1) ≡ f → Within 1440 (cond f (pos 1) (k .end .at -ℤ k .start .at))
+    by true e = lit-in 1 tt
+    by false e = from-zero (≤ℤ-trans (leZ-yes tt) (ltZ-false e)) (apart-below (k .start .at) (k .end .at) (h .start-in .from) (h .end-in .to))
+
+pub meeting-small : {b : Bounds} {k : Query} → BoundsInRange b → QueryInRange k → Small (meetingOf b k)
+unfolding meetingOf
+meeting-small hb hk =
+    let s = minute-in (hk .start-in) in
+    let d = span-in hk in
+    along-small _ _ _ _ _ s d (hk .y-in) (hb .y-in) (along-small _ _ _ _ _ s d (hk .x-in) (hb .x-in) (whole-small hk))

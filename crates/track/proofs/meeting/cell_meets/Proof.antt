@@ -1,22 +1,23 @@
 use borrow.Author.Needs.{needs}
+use Rattle.whole.specs.Within.{read32}
+use Rattle.track.specs.Numbers.{minute-in}
+use Rattle.track.specs.Small.{cell-bounds-in}
 use Rattle.track.proofs.meeting.cell_meets.Statement.{statement}
 use Rattle.track.proofs.meeting.cell_meets.Tie as tie
-use Rattle.track.proofs.meeting.cell_meets.Reads as reads
-use Rattle.track.proofs.meeting.cell_meets.Lts as lts
-use Rattle.track.proofs.meeting.cell_bounds.Reads as cell-bounds-reads
-use Rattle.track.proofs.meeting.meets.Reads as meets-reads
 
--- src/meeting.rt:58:11
 cell-bounds-requires : tie.Need-cell-bounds-requires
 cell-bounds-requires c κs = search needs
 
--- src/meeting.rt:58:5
 meets-requires : tie.Need-meets-requires
-meets-requires c κs = ?
+meets-requires c κs =
+    let s = c .before .before in
+    simp (c .before .cell-bounds .ensures, read32 tt (minute-in (s .pre .0 .expiry-in)))
+    (cell-bounds-in (s .pre .0), s .pre .0 .expiry-in, s .pre .1)
 
--- src/meeting.rt:54:1
 returns : tie.Need-returns
-returns c = ?
+returns c =
+    let s = c .before .before .before in
+    simp (c .before .before .cell-bounds .ensures, read32 tt (minute-in (s .pre .0 .expiry-in))) at (c .meets .ensures)
 
 pub cell-meets-spec : {M : Type 1} → statement M
 cell-meets-spec = tie.close (tie.spec cell-bounds-requires meets-requires returns)
