@@ -1,2 +1,4 @@
 pub mod Parts
 pub mod PartLaws
+pub mod Layout
+pub mod LayoutLaws

@@ -3,9 +3,9 @@
 use mathlib.Core.Path.{_≡_, refl, ap, sym, _∙_}
 use mathlib.Core.Logic.{_⊎_, inl, inr}
 use mathlib.Core.List.{List, [], _∷_, _++_, append-assoc}
-use Prim.Native.Nat.{ℕ, zero, suc, _+_, _-_, _<_, _≤_}
+use Prim.Native.Nat.{ℕ, zero, suc, _+_, _*_, _-_, _<_, _≤_}
 use native.Mathlib.Decide.{decLt}
-use native.Mathlib.Nat.{add-sub-cancel-left}
+use native.Mathlib.Nat.{add-sub-cancel-left, mul-le-mul-left, mul-suc}
 use native.Mathlib.Numerals.{add-one, unary-clauses}
 use native.Mathlib.Omega.{arith}
 use borrow.Rule.Slice.PartMut.{putMid, set-mid-at}
@@ -100,6 +100,18 @@ module _ {A : Type 0} where
           let both : length (take a w ++ q) ≡ a + k = length-append (take a w) q ∙ omega (arith, length-fore w a (omega arith)) in
           rw (← append-assoc (take a w) q (drop k (drop a w))) (part-behind (take a w ++ q) (drop k (drop a w)) (a + k) b m both h)
 
+  -- ---- records of one size, side by side from `base` on: one that is put leaves each other as it was
+  pub record-other : (w : List A) (base size i : ℕ) (p : List A) (j : ℕ) → base + size * i + size ≤ length w → length p ≡ size → (j ≡ i → ⊥)
+      → part (put w (base + size * i) size p) (base + size * j) size ≡ part w (base + size * j) size
+  record-other w base size i p j fits long ne = by (decLt j i)
+    where
+      -- the record after m ends no later than a higher one starts
+      ends : (m n : ℕ) → m < n → base + size * m + size ≤ base + size * n
+      ends m n h = omega (arith, mul-le-mul-left size h, mul-suc size m)
+      by : Dec (j < i) → part (put w (base + size * i) size p) (base + size * j) size ≡ part w (base + size * j) size
+      by (yes below) = part-put-below w (base + size * i) size p (base + size * j) size fits (ends j i below)
+      by (no not-below) = part-put-above w (base + size * i) size p (base + size * j) size fits long (ends i j (omega arith))
+
   -- ---- a part of a part, and what is put into a part
   drop-take : (b k : ℕ) (l : List A) → drop b (take k l) ≡ take (k - b) (drop b l)
   drop-take zero k l = simp unary-clauses
@@ -152,6 +164,11 @@ module _ {A : Type 0} where
   set-in-part w a k j v fits h =
       let short : j < length (take k (drop a w)) = omega (arith, length-part w a k fits) in
       sym (set-mid-at a k j w v short)
+
+  pub set-put : (w : List A) (a k : ℕ) (p : List A) (j : ℕ) (v : A) → a + k ≤ length w → length p ≡ k → j < k → set (put w a k p) (a + j) v ≡ put w a k (set p j v)
+  set-put w a k p j v fits long h =
+      let fits′ : a + k ≤ length (put w a k p) = omega (arith, length-put w a k p fits long) in
+      set-in-part (put w a k p) a k j v fits′ h ∙ simp (part-put, put-put)
 
   -- ---- a put grows by what is put beside it
   pub put-none : (w : List A) (a : ℕ) → put w a 0 [] ≡ w
