@@ -10,7 +10,7 @@ use native.Mathlib.Numerals.{add-one, unary-clauses}
 use native.Mathlib.Omega.{arith}
 use borrow.Rule.Slice.PartMut.{putMid, set-mid-at}
 use lib.ListN.{length, getD, take, drop, set, length-take, length-drop, length-append, length-set, List·getD-append, take-append-drop}
-use lib.Seq.{getD-take, getD-drop, getD-append-add, ext-getD, take-at, drop-at, drop-drop, drop-cons, set-at, take-suc, take-append-le, drop-append-le, drop-append-add, take-set-lt, drop-set-add, take-set-le, drop-set-lt, take-take, take-add, take-nil, set-split}
+use lib.Seq.{getD-take, getD-drop, getD-append-add, ext-getD, take-at, drop-at, drop-drop, drop-cons, set-at, take-suc, take-append-le, drop-append-le, drop-append-add, take-set-lt, drop-set-add, take-set-le, drop-set-lt, take-take, take-add, take-nil, set-split, sets, sets-eq}
 use Rattle.words.specs.Parts.{part, put}
 
 module _ {A : Type 0} where
@@ -205,6 +205,14 @@ module _ {A : Type 0} where
   pub part-one : (w : List A) (a : ℕ) (d : A) → a < length w → part w a 1 ≡ getD w a d ∷ []
   unfolding part
   part-one w a d h = rw (drop-cons w a d)
+
+  pub part-next : (w : List A) (a k : ℕ) (d : A) → a + k < length w → part w a (k + 1) ≡ part w a k ++ (getD w (a + k) d ∷ [])
+  part-next w a k d h = part-add w a k 1 ∙ ap (λ (l : List A). part w a k ++ l) (part-one w (a + k) d h)
+
+  -- stores one after the other
+  pub sets-put : (w : List A) (a : ℕ) (p : List A) → a + length p ≤ length w → sets w a p ≡ put w a (length p) p
+  unfolding put
+  sets-put w a p fits = sets-eq p w a fits ∙ simp (append-assoc, drop-drop)
 
   -- ---- a lent part: what the code says of `&mut w[a..a + k]` while it is lent, and of the whole when it is back
   pub lent-part : (w : List A) (a k : ℕ) → take (a + k - a) (drop a w) ≡ part w a k

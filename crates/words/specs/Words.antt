@@ -1,8 +1,9 @@
 -- What the words of a table are read as: a number, a count, a row of four numbers, two rows. A word past the end is read as 0.
+use mathlib.Core.Path.{_≡_}
 use mathlib.Core.List.{List, [], _∷_, _++_}
 use Prim.Native.Nat.{ℕ, _+_}
 use lib.IntN.{ℤ, pos, negsuc}
-use lib.ListN.{getD}
+use lib.ListN.{length, getD}
 
 -- the word at `at`
 abbrev pub wordAt : List ℤ → ℕ → ℤ
@@ -24,3 +25,9 @@ rowsAt w at = rowAt w at ∷ rowAt w (at + 4) ∷ []
 -- two rows as they stand one after the other
 abbrev pub inLine : List (List ℤ) → List ℤ
 inLine b = getD b 0 [] ++ getD b 1 []
+
+-- b is two rows of four
+pub record TwoRows (b : List (List ℤ)) : Type 0 where
+  pub two : length b ≡ 2
+  pub first : length (getD b 0 []) ≡ 4
+  pub second : length (getD b 1 []) ≡ 4

@@ -52,3 +52,92 @@ pub fn number(n: usize) -> i32
 {
     n as i32
 }
+
+// The four words from a place on. A place past the end is told apart, since the places after it might not be numbers of the machine.
+pub fn row(t: &[i32], at: usize) -> [i32; 4]
+    ensures { λ r. ⌜ r ≡ rowAt (now (t .entry)) at ⌝ }
+{
+    if at < t.len() {
+        [
+            word(t, at),
+            word(t, at + 1),
+            word(t, at + 2),
+            word(t, at + 3),
+        ]
+    } else {
+        [0, 0, 0, 0]
+    }
+}
+
+// The two rows from a place on.
+pub fn rows(t: &[i32], at: usize) -> [[i32; 4]; 2]
+    ensures { λ r. ⌜ r ≡ rowsAt (now (t .entry)) at ⌝ }
+{
+    if at < t.len() {
+        [row(t, at), row(t, at + 4)]
+    } else {
+        [[0, 0, 0, 0], [0, 0, 0, 0]]
+    }
+}
+
+// A row written from a place on.
+pub fn put_row(t: &mut [i32], at: usize, r: [i32; 4])
+    requires { ⌜ at + 4 ≤ length (now t) ⌝ }
+    ensures { λ _. ⌜ now (t .exit) ≡ put (now (t .entry)) at 4 r ⌝ }
+{
+    t[at] = r[0];
+    t[at + 1] = r[1];
+    t[at + 2] = r[2];
+    t[at + 3] = r[3];
+}
+
+// Two rows written one after the other from a place on.
+pub fn put_rows(t: &mut [i32], at: usize, b: [[i32; 4]; 2])
+    requires { ⌜ at + 8 ≤ length (now t) ⌝ }
+    ensures { λ _. ⌜ now (t .exit) ≡ put (now (t .entry)) at 8 (inLine b) ⌝ }
+{
+    put_row(t, at, b[0]);
+    put_row(t, at + 4, b[1]);
+}
+
+// The run of n words from `from` on, copied to the run from `to` on.
+pub fn copy_within(t: &mut [i32], from: usize, to: usize, n: usize)
+    requires { ⌜ CanCopy (now t) from to n ⌝ }
+    ensures { λ _. ⌜ now (t .exit) ≡ put (now (t .entry)) to n (part (now (t .entry)) from n) ⌝ }
+{
+    let mut j = 0;
+    while j < n {
+        t[to + j] = t[from + j];
+        j += 1;
+    }
+}
+
+// One value in each of the n words from `from` on.
+pub fn fill(t: &mut [i32], from: usize, n: usize, v: i32)
+    requires { ⌜ from + n ≤ length (now t) ⌝ }
+    ensures { λ _. ⌜ now (t .exit) ≡ put (now (t .entry)) from n (replicate n v) ⌝ }
+{
+    let mut j = 0;
+    while j < n {
+        t[from + j] = v;
+        j += 1;
+    }
+}
+
+// The count of a node that is lent by itself.
+fn put_count(node: &mut [i32], n: i32)
+    requires { ⌜ 0 < length (now node) ⌝ }
+    ensures { λ _. ⌜ now (node .exit) ≡ set (now (node .entry)) 0 n ⌝ }
+{
+    node[0] = n;
+}
+
+// The count of node i: the node's words are lent on, and all others stay as they are.
+pub fn with_count(t: &mut [i32], i: usize, n: i32)
+    requires { ⌜ InTable (now t) i ⌝ }
+    ensures { λ _. ⌜ now (t .exit) ≡ setNode (now (t .entry)) i (set (nodeAt (now (t .entry)) i) 0 n) ⌝ }
+{
+    let a = node_start(i);
+    let e = a + NODE_WORDS;
+    put_count(&mut t[a..e], n);
+}
