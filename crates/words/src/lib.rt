@@ -6,7 +6,7 @@ ghost use lib.IntN.{ℤ, pos};
 ghost use lib.ListN.{length, getD, set, replicate};
 ghost use Rattle.words.specs.Parts.{part, put, CanCopy};
 ghost use Rattle.words.specs.Layout.{nodeStart, entryStart, nodeLimit, fullNode, InTable, nodeAt, setNode};
-ghost use Rattle.words.specs.Words.{wordAt, natOf, rowAt, rowsAt, inLine};
+ghost use Rattle.words.specs.Words.{wordAt, natOf, rowAt, rowsAt, inLine, TwoRows};
 
 // The sizes of specs/Layout.antt, for the code.
 pub const HEADER: usize = 16;
@@ -80,10 +80,10 @@ pub fn rows(t: &[i32], at: usize) -> [[i32; 4]; 2]
     }
 }
 
-// A row written from a place on.
+// A row written from a place on. The laws of what is put ask for its length: the row's type has it, and the contract hands it on.
 pub fn put_row(t: &mut [i32], at: usize, r: [i32; 4])
     requires { ⌜ at + 4 ≤ length (now t) ⌝ }
-    ensures { λ _. ⌜ now (t .exit) ≡ put (now (t .entry)) at 4 r ⌝ }
+    ensures { λ _. ⌜ (now (t .exit) ≡ put (now (t .entry)) at 4 r) × (length r ≡ 4) ⌝ }
 {
     t[at] = r[0];
     t[at + 1] = r[1];
@@ -94,7 +94,7 @@ pub fn put_row(t: &mut [i32], at: usize, r: [i32; 4])
 // Two rows written one after the other from a place on.
 pub fn put_rows(t: &mut [i32], at: usize, b: [[i32; 4]; 2])
     requires { ⌜ at + 8 ≤ length (now t) ⌝ }
-    ensures { λ _. ⌜ now (t .exit) ≡ put (now (t .entry)) at 8 (inLine b) ⌝ }
+    ensures { λ _. ⌜ (now (t .exit) ≡ put (now (t .entry)) at 8 (inLine b)) × TwoRows b ⌝ }
 {
     put_row(t, at, b[0]);
     put_row(t, at + 4, b[1]);

@@ -1,49 +1,65 @@
+use mathlib.Core.Path.{refl, sym}
+use mathlib.Core.List.{List}
+use Prim.Native.Nat.{ℕ, _-_}
+use native.Mathlib.Omega.{arith}
+use borrow.Author.Needs.{needs}
+use lib.IntN.{ℤ}
+use lib.ListN.{replicate, length-replicate, replicate-append-replicate}
+use mir.Syntax.{w32}
+use mir.Val.{toZ, ofZ}
+use Rattle.whole.specs.Within.{back}
+use Rattle.words.proofs.Runs.{Written, written-none, written-next, written-all}
 use Rattle.words.proofs.fill.Statement.{statement}
 use Rattle.words.proofs.fill.Tie as tie
 use Rattle.words.proofs.fill.Reads as reads
 use Rattle.words.proofs.fill.Lts as lts
 
+abbrev copies : ℤ → ℕ → List ℤ
+copies v j = replicate j v
+
 abbrev Inv-loop : tie.InvT-loop
-Inv-loop t₀ from n v j₀ t j = ?
+Inv-loop t₀ from n v j₀ t j = Written (copies (toZ w32 v)) t₀ t from n j
 
 abbrev μ-loop : tie.MeasureT-loop
-μ-loop t₀ from n v j₀ t j = ?
+μ-loop t₀ from n v j₀ t j = n - j
 
--- src/lib.rt:121:5
 loop-holds : tie.Need-loop-holds Inv-loop μ-loop
-loop-holds c = ?
+loop-holds c = let a = c .args in written-none (copies (toZ w32 (ofZ w32 (a .v)))) (a .t .now) (a .from) (a .n) refl
 
--- src/lib.rt:122:11
 add-v : tie.Need-add-v Inv-loop μ-loop
-add-v c = ?
+add-v c = search needs
 
--- src/lib.rt:122:9
 mul-v : tie.Need-mul-v Inv-loop μ-loop
-mul-v c = ?
+mul-v c = search needs
 
--- src/lib.rt:122:9
 slice-set-from-v : tie.Need-slice-set-from-v Inv-loop μ-loop
-slice-set-from-v c = ?
+slice-set-from-v c = search needs
 
--- src/lib.rt:123:9
 add-j : tie.Need-add-j Inv-loop μ-loop
-add-j c = ?
+add-j c = search needs
 
--- src/lib.rt:121:5
 loop-less : tie.Need-loop-less Inv-loop μ-loop
-loop-less c = ?
+loop-less c = search needs
 
--- src/lib.rt:121:5
 loop-again : tie.Need-loop-again Inv-loop μ-loop
-loop-again c = ?
+loop-again c =
+    let a = c .before .before .args in
+    let v = toZ w32 (ofZ w32 (a .v)) in
+    let so-far = c .before .loop in
+    let j = so-far .j in
+    written-next (copies v) (a .t .now) (a .from) (a .n) (so-far .t) j (so-far .inv) v
+    (c .before .before .pre) (search needs) (length-replicate j v) (sym (replicate-append-replicate j 1 v))
 
--- src/lib.rt:116:1
 same-length : tie.Need-same-length Inv-loop μ-loop
-same-length c = ?
+same-length c = search needs
 
--- src/lib.rt:116:1
 returns : tie.Need-returns Inv-loop μ-loop
-returns c = ?
+returns c =
+    let s = c .before .before in
+    let a = s .args in
+    let at-end = c .before .loop in
+    simp (back (s .fits .v)) at
+    (written-all (copies (toZ w32 (ofZ w32 (a .v)))) (a .t .now) (a .from) (a .n) (at-end .t) (at-end .j) (at-end .inv) (search needs))
 
 pub fill-spec : {M : Type 1} → statement M
 fill-spec =

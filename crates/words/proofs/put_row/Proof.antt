@@ -1,11 +1,29 @@
 use mathlib.Core.Path.{_≡_}
+use mathlib.Core.List.{List, [], _∷_}
+use Prim.Native.Nat.{ℕ, _+_, _≤_}
+use native.Mathlib.Numerals.{add-one, add-two, add-three}
+use lib.IntN.{ℤ, pos}
+use mir.Syntax.{w32}
 use native.Mathlib.Omega.{arith}
-use lib.ListN.{length, length-set}
+use lib.ListN.{length, getD, set, length-set}
+use Rattle.whole.specs.Within.{read-at}
+use Rattle.words.specs.Parts.{put}
+use Rattle.words.specs.PartLaws.{sets-put}
 use borrow.Author.Needs.{needs}
 use Rattle.words.proofs.put_row.Statement.{statement}
 use Rattle.words.proofs.put_row.Tie as tie
 use Rattle.words.proofs.put_row.Reads as reads
 use Rattle.words.proofs.put_row.Lts as lts
+
+-- four stores one after the other put the whole row
+four-stores : (w : List ℤ) (at : ℕ) (r : List ℤ) → at + 4 ≤ length w → length r ≡ 4
+    → set (set (set (set w at (getD r 0 (pos 0))) (at + 1) (getD r 1 (pos 0))) (at + 2) (getD r 2 (pos 0))) (at + 3) (getD r 3 (pos 0)) ≡ put w at 4 r
+four-stores w at [] fits e = absurd (omega arith)
+four-stores w at (a ∷ []) fits e = absurd (omega arith)
+four-stores w at (a ∷ b ∷ []) fits e = absurd (omega arith)
+four-stores w at (a ∷ b ∷ c ∷ []) fits e = absurd (omega arith)
+four-stores w at (a ∷ b ∷ c ∷ d ∷ []) fits e = rw (add-one, add-two, add-three) (sets-put w at (a ∷ b ∷ c ∷ d ∷ []) fits)
+four-stores w at (a ∷ b ∷ c ∷ d ∷ x ∷ l) fits e = absurd (omega arith)
 
 array-copy-out-t : tie.Need-array-copy-out-t
 array-copy-out-t c = search needs
@@ -58,8 +76,10 @@ same-length c = search needs
 returns : tie.Need-returns
 returns c =
     let a = c .before .before .before .before .args in
-    let long : length (a .t3) ≡ 4 = search needs in
-    ?
+    let r = a .t3 in
+    let long : length r ≡ 4 = search needs in
+    simp (read-at w32 r 0 (c .before .before .before .t .given), read-at w32 r 1 (c .before .before .t2 .given), read-at w32 r 2 (c .before .t3 .given), read-at w32 r 3 (c .t4 .given))
+    (four-stores (a .t .now) (a .at) r (search needs) long, long)
 
 pub put-row-spec : {M : Type 1} → statement M
 put-row-spec =
