@@ -108,6 +108,7 @@ module _ {A : Type 0} where
       -- the record after m ends no later than a higher one starts
       ends : (m n : ℕ) → m < n → base + size * m + size ≤ base + size * n
       ends m n h = omega (arith, mul-le-mul-left size h, mul-suc size m)
+
       by : Dec (j < i) → part (put w (base + size * i) size p) (base + size * j) size ≡ part w (base + size * j) size
       by (yes below) = part-put-below w (base + size * i) size p (base + size * j) size fits (ends j i below)
       by (no not-below) = part-put-above w (base + size * i) size p (base + size * j) size fits long (ends i j (omega arith))
@@ -131,12 +132,16 @@ module _ {A : Type 0} where
     where
       run : List A
       run = take k (drop a w)
+
       rest : List A
       rest = drop k (drop a w)
+
       long : length run ≡ k
       long = length-part w a k fits
+
       fore : take (a + b) w ≡ take a w ++ take b run
       fore = take-add a b w ∙ ap (λ (l : List A). take a w ++ l) (sym (take-take b k (drop a w) (omega arith)))
+
       aft : drop m (drop (a + b) w) ≡ drop m (drop b run) ++ rest
       aft =
           let h₁ : b ≤ length run = omega (arith, long) in
@@ -181,10 +186,13 @@ module _ {A : Type 0} where
     where
       rest : List A
       rest = drop k (drop a w)
+
       both : length (take a w ++ p) ≡ a + k
       both = length-append (take a w) p ∙ omega (arith, length-fore w a (omega arith))
+
       fore : take (a + k) (take a w ++ (p ++ rest)) ≡ take a w ++ p
       fore = ap (take (a + k)) (sym (append-assoc (take a w) p rest)) ∙ take-at (take a w ++ p) rest (a + k) both
+
       aft : drop (a + k) (take a w ++ (p ++ rest)) ≡ rest
       aft = ap (drop (a + k)) (sym (append-assoc (take a w) p rest)) ∙ drop-at (take a w ++ p) rest (a + k) both
 

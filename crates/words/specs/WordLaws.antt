@@ -110,18 +110,25 @@ rowsAt-put w at b fits h = rw (apart, first, second) (listed b (h .two))
   where
     r : List ℤ
     r = getD b 0 []
+
     s : List ℤ
     s = getD b 1 []
+
     half : List ℤ
     half = put w at 4 r
+
     long : length half ≡ length w
     long = length-put w at 4 r (omega arith) (h .first)
+
     apart : put w at 8 (inLine b) ≡ put half (at + 4) 4 s
     apart = sym (put-beside w at 4 r 4 s (omega arith) (h .first))
+
     first : rowAt (put half (at + 4) 4 s) at ≡ r
     first = rowAt-below half (at + 4) 4 s at (omega (arith, long)) (omega arith) ∙ rowAt-put w at r (omega arith) (h .first)
+
     second : rowAt (put half (at + 4) 4 s) (at + 4) ≡ s
     second = rowAt-put half (at + 4) s (omega (arith, long)) (h .second)
+
     listed : (b : List (List ℤ)) → length b ≡ 2 → getD b 0 [] ∷ getD b 1 [] ∷ [] ≡ b
     listed [] e = absurd (omega arith)
     listed (x ∷ []) e = absurd (omega arith)

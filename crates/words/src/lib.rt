@@ -10,9 +10,13 @@ ghost use Rattle.words.specs.Words.{wordAt, natOf, rowAt, rowsAt, inLine
 
 // The sizes of specs/Layout.antt, for the code.
 pub const HEADER: usize = 16;
+
 pub const NODE_WORDS: usize = 96;
+
 pub const OWN_WORDS: usize = 8;
+
 pub const ENTRY_WORDS: usize = 11;
+
 pub const FULL_NODE: usize = 8;
 
 // The place of node i's first word.

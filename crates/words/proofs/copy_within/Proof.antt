@@ -12,8 +12,6 @@ use Rattle.words.specs.WordLaws.{word-back}
 use Rattle.words.proofs.Runs.{Written, written-none, written-next, written-all, not-yet-written}
 use Rattle.words.proofs.copy_within.Statement.{statement}
 use Rattle.words.proofs.copy_within.Tie as tie
-use Rattle.words.proofs.copy_within.Reads as reads
-use Rattle.words.proofs.copy_within.Lts as lts
 
 abbrev Inv-loop : tie.InvT-loop
 Inv-loop t₀ from to n j₀ t j = Written (part t₀ from) t₀ t to n j
@@ -59,7 +57,7 @@ loop-again c =
     let so-far = c .before .before .loop in
     let j = so-far .j in
     let v : toZ w32 (ofZ w32 (getD (so-far .t) (a .from + j) (pos 0))) ≡ getD w (a .from + j) (pos 0)
-      = word-back _ (c .t .given) ∙ not-yet-written w (so-far .t) (a .from) (a .to) (a .n) j (pos 0) can (search needs) (so-far .inv) in
+    = word-back _ (c .t .given) ∙ not-yet-written w (so-far .t) (a .from) (a .to) (a .n) j (pos 0) can (search needs) (so-far .inv) in
     rw v
     (written-next (part w (a .from)) w (a .to) (a .n) (so-far .t) j (so-far .inv) (getD w (a .from + j) (pos 0))
     (can .to-inside) (search needs) (length-part w (a .from) j (omega arith)) (part-next w (a .from) j (pos 0) (omega arith)))

@@ -11,8 +11,6 @@ use Rattle.whole.specs.Within.{back}
 use Rattle.words.proofs.Runs.{Written, written-none, written-next, written-all}
 use Rattle.words.proofs.fill.Statement.{statement}
 use Rattle.words.proofs.fill.Tie as tie
-use Rattle.words.proofs.fill.Reads as reads
-use Rattle.words.proofs.fill.Lts as lts
 
 abbrev copies : ℤ → ℕ → List ℤ
 copies v j = replicate j v

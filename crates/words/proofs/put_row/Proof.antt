@@ -12,8 +12,6 @@ use Rattle.words.specs.PartLaws.{sets-put}
 use borrow.Author.Needs.{needs}
 use Rattle.words.proofs.put_row.Statement.{statement}
 use Rattle.words.proofs.put_row.Tie as tie
-use Rattle.words.proofs.put_row.Reads as reads
-use Rattle.words.proofs.put_row.Lts as lts
 
 -- four stores one after the other put the whole row
 four-stores : (w : List ℤ) (at : ℕ) (r : List ℤ) → at + 4 ≤ length w → length r ≡ 4

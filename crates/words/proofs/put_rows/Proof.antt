@@ -6,9 +6,6 @@ use Rattle.words.specs.PartLaws.{put-beside}
 use borrow.Author.Needs.{needs}
 use Rattle.words.proofs.put_rows.Statement.{statement}
 use Rattle.words.proofs.put_rows.Tie as tie
-use Rattle.words.proofs.put_rows.Reads as reads
-use Rattle.words.proofs.put_rows.Lts as lts
-use Rattle.words.proofs.put_row.Reads as put-row-reads
 
 array-copy-out-put-row : tie.Need-array-copy-out-put-row
 array-copy-out-put-row c = search needs

@@ -4,9 +4,6 @@ use Rattle.words.specs.Words.{rowAt}
 use Rattle.words.specs.WordLaws.{rowAt-past, word-back}
 use Rattle.words.proofs.row.Statement.{statement}
 use Rattle.words.proofs.row.Tie as tie
-use Rattle.words.proofs.row.Reads as reads
-use Rattle.words.proofs.row.Lts as lts
-use Rattle.words.proofs.word.Reads as word-reads
 
 word-requires : tie.Need-word-requires
 word-requires c κs = search needs

@@ -4,9 +4,6 @@ use borrow.Author.Needs.{needs}
 use Rattle.words.specs.WordLaws.{rowAt-past}
 use Rattle.words.proofs.rows.Statement.{statement}
 use Rattle.words.proofs.rows.Tie as tie
-use Rattle.words.proofs.rows.Reads as reads
-use Rattle.words.proofs.rows.Lts as lts
-use Rattle.words.proofs.row.Reads as row-reads
 
 row-requires : tie.Need-row-requires
 row-requires c κs = search needs

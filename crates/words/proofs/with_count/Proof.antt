@@ -4,10 +4,6 @@ use Rattle.words.specs.LayoutLaws.{lent-node}
 use borrow.Author.Needs.{needs}
 use Rattle.words.proofs.with_count.Statement.{statement}
 use Rattle.words.proofs.with_count.Tie as tie
-use Rattle.words.proofs.with_count.Reads as reads
-use Rattle.words.proofs.with_count.Lts as lts
-use Rattle.words.proofs.node_start.Reads as node-start-reads
-use Rattle.words.proofs.put_count.Reads as put-count-reads
 
 node-start-requires : tie.Need-node-start-requires
 node-start-requires c κs = search needs
