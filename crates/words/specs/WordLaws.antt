@@ -15,6 +15,8 @@ use lib.Seq.{drop-cons}
 use Rattle.words.specs.Parts.{part, put}
 use Rattle.words.specs.PartLaws.{length-put, getD-part, getD-put-below, getD-put-above, part-put, part-add, put-beside}
 use Rattle.whole.specs.Within.{Within, back}
+use Rattle.words.specs.Layout.{nodeWords, nodeStart, nodeAt}
+use Rattle.words.specs.LayoutLaws.{word-nodeAt}
 use Rattle.words.specs.Words.{wordAt, natOf, rowAt, rowsAt, inLine, TwoRows}
 
 -- ---- a word in a local of the code: a call's result z is read back from bits, and `c .word .ok` is the fact that it fits
@@ -134,3 +136,28 @@ rowsAt-put w at b fits h = rw (apart, first, second) (listed b (h .two))
     listed (x ∷ []) e = absurd (omega arith)
     listed (x ∷ y ∷ []) e = refl
     listed (x ∷ y ∷ z ∷ l) e = absurd (omega arith)
+
+pub rowsAt-in-part : (w : List ℤ) (a k at : ℕ) → at + 8 ≤ k → rowsAt (part w a k) at ≡ rowsAt w (a + at)
+rowsAt-in-part w a k at h =
+    rw (rowAt-in-part w a k at (omega arith), rowAt-in-part w a k (at + 4) (omega arith), add-assoc a at 4)
+
+pub rowsAt-below : (w : List ℤ) (a k : ℕ) (p : List ℤ) (at : ℕ) → a + k ≤ length w → at + 8 ≤ a → rowsAt (put w a k p) at ≡ rowsAt w at
+rowsAt-below w a k p at fits h =
+    rw (rowAt-below w a k p at fits (omega arith), rowAt-below w a k p (at + 4) fits (omega arith))
+
+pub rowsAt-above : (w : List ℤ) (a k : ℕ) (p : List ℤ) (at : ℕ) → a + k ≤ length w → length p ≡ k → a + k ≤ at → rowsAt (put w a k p) at ≡ rowsAt w at
+rowsAt-above w a k p at fits long h =
+    rw (rowAt-above w a k p at fits long h, rowAt-above w a k p (at + 4) fits long (omega arith))
+
+-- ---- words of a node, by their place `b` in the table, however the code comes by it
+module _ (w : List ℤ) (i at b : ℕ) (place : b ≡ nodeStart i + at) where
+  pub word-of-node : at < nodeWords → wordAt w b ≡ wordAt (nodeAt w i) at
+  word-of-node h = rw place (sym (word-nodeAt w i at (pos 0) h))
+
+  pub row-of-node : at + 4 ≤ nodeWords → rowAt w b ≡ rowAt (nodeAt w i) at
+  unfolding nodeAt
+  row-of-node h = rw place (sym (rowAt-in-part w (nodeStart i) nodeWords at h))
+
+  pub rows-of-node : at + 8 ≤ nodeWords → rowsAt w b ≡ rowsAt (nodeAt w i) at
+  unfolding nodeAt
+  rows-of-node h = rw place (sym (rowsAt-in-part w (nodeStart i) nodeWords at h))

@@ -49,6 +49,13 @@ pub fn place(z: i32) -> usize
     if z < 0 { 0 } else { z as usize }
 }
 
+// The word at a place, taken for a count or an index.
+pub fn place_at(t: &[i32], at: usize) -> usize
+    ensures { λ r. ⌜ (r ≡ natOf (wordAt (now (t .entry)) at)) × (r < 2 ^ 31) ⌝ }
+{
+    place(word(t, at))
+}
+
 // A count or an index as a word.
 pub fn number(n: usize) -> i32
     requires { ⌜ n < 2 ^ 31 ⌝ }
