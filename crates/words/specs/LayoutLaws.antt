@@ -26,6 +26,9 @@ module _ {A : Type 0} where
   unfolding setNode
   length-setNode w i n = length-put w (nodeStart i) nodeWords n
 
+  pub still-in-table : (w : List A) (i : ℕ) (n : List A) (j : ℕ) → InTable w i → length n ≡ nodeWords → InTable w j → InTable (setNode w i n) j
+  still-in-table w i n j fits long h = omega (arith, length-setNode w i n fits long)
+
   pub node-same : (w : List A) (i : ℕ) (n : List A) → InTable w i → length n ≡ nodeWords → nodeAt (setNode w i n) i ≡ n
   unfolding setNode nodeAt
   node-same w i n = part-put w (nodeStart i) nodeWords n
@@ -115,3 +118,8 @@ module _ {A : Type 0} where
       → n ≡ change (take (a + nodeWords - a) (drop a w)) → putMid a (a + nodeWords - a) w n ≡ setNode w i (change (nodeAt w i))
   unfolding nodeAt setNode
   lent-node change w i a n start made = lent-back w a nodeWords n ∙ rw (made, lent-part w a nodeWords, start)
+
+-- for `simp`; where one node is set after another, `simp (node-rules, still-in-table)`
+pub ruleset node-rules = (length-nodeAt, length-setNode, node-same, node-other, header-same, setNode-nodeAt, setNode-setNode, node-past-header)
+
+pub ruleset entry-rules = (length-entryAt, length-setEntry, entry-same, entry-other, own-same)

@@ -1,5 +1,5 @@
--- Laws of `part` and `put`, for lists of any type. Those that are equations of a part, a put or an element of one are in the set
--- `part-rules`, for `simp`: their side conditions are looked for among the hypotheses.
+-- Laws of `part` and `put`, for lists of any type. Those that simplify are in the set `part-rules`, for `simp`, which looks for their side
+-- conditions among the variables in scope.
 use mathlib.Core.Path.{_≡_, refl, ap, sym, _∙_}
 use mathlib.Core.Logic.{_⊎_, inl, inr}
 use mathlib.Core.List.{List, [], _∷_, _++_, append-assoc}
@@ -230,3 +230,6 @@ module _ {A : Type 0} where
   pub lent-back : (w : List A) (a k : ℕ) (p : List A) → putMid a (a + k - a) w p ≡ put w a k p
   unfolding put
   lent-back w a k p = rw (add-sub-cancel-left a k)
+
+-- for `simp`
+pub ruleset part-rules = (length-part, length-put, getD-part, getD-put-below, getD-put-in, getD-put-above, put-part, part-put, put-put, part-put-below, part-put-above)
