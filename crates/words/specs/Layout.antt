@@ -1,7 +1,7 @@
 -- Where things stand in a table of words: a header, then the nodes side by side. A node is some words of its own, of which the first
 -- is the count of its entries, then its entries side by side. Each size is said here once.
 use mathlib.Core.List.{List}
-use Prim.Native.Nat.{ℕ, _+_, _*_, _≤_}
+use Prim.Native.Nat.{ℕ, _+_, _*_, _^_, _≤_}
 use lib.ListN.{length}
 use Rattle.words.specs.Parts.{part, put}
 
@@ -23,10 +23,10 @@ entryWords = 11
 abbrev pub fullNode : ℕ
 fullNode = 8
 
--- every node that lies in a slice has a lower number, and so has every word that is taken for one: below it no place in a table is past the
--- largest usize
+-- below this number no node's place is past the largest usize. Every node that lies in a slice has a lower number, and so has every word that
+-- is taken for one
 abbrev pub nodeLimit : ℕ
-nodeLimit = 36028797018963968
+nodeLimit = 2 ^ 55
 
 -- the place of node i's first word in the table
 abbrev pub nodeStart : ℕ → ℕ

@@ -1,7 +1,6 @@
 -- Laws of `part` and `put`, for lists of any type. Those that simplify are in the set `part-rules`, for `simp`, which looks for their side
 -- conditions among the variables in scope.
-use mathlib.Core.Path.{_≡_, refl, ap, sym, _∙_}
-use mathlib.Core.Logic.{_⊎_, inl, inr}
+use mathlib.Core.Path.{_≡_, ap, sym, _∙_}
 use mathlib.Core.List.{List, [], _∷_, _++_, append-assoc}
 use Prim.Native.Nat.{ℕ, zero, suc, _+_, _*_, _-_, _<_, _≤_}
 use native.Mathlib.Decide.{decLt}
@@ -9,8 +8,9 @@ use native.Mathlib.Nat.{add-sub-cancel-left, mul-le-mul-left, mul-suc}
 use native.Mathlib.Numerals.{add-one, unary-clauses}
 use native.Mathlib.Omega.{arith}
 use borrow.Rule.Slice.PartMut.{putMid, set-mid-at}
-use lib.ListN.{length, getD, take, drop, set, length-take, length-drop, length-append, length-set, List·getD-append, take-append-drop}
-use lib.Seq.{getD-take, getD-drop, getD-append-add, ext-getD, take-at, drop-at, drop-drop, drop-cons, set-at, take-suc, take-append-le, drop-append-le, drop-append-add, take-set-lt, drop-set-add, take-set-le, drop-set-lt, take-take, take-add, take-nil, set-split, sets, sets-eq}
+use lib.ListN.{length, getD, take, drop, set, length-take, length-drop, length-append, List·getD-append, take-append-drop}
+use lib.Seq.{getD-take, getD-drop, getD-append-add, take-at, drop-at, take-take, take-add, take-nil, drop-drop, drop-cons, take-append-le, drop-append-le, drop-append-add}
+use lib.Seq.{take-set-le, take-set-lt, drop-set-lt, drop-set-add, set-split, sets, sets-eq}
 use Rattle.words.specs.Parts.{part, put}
 
 module _ {A : Type 0} where
@@ -21,6 +21,9 @@ module _ {A : Type 0} where
 
   length-fore : (w : List A) (a : ℕ) → a ≤ length w → length (take a w) ≡ a
   length-fore w a fits = simp length-take (omega arith)
+
+  length-head : (w : List A) (a k : ℕ) (p : List A) → a ≤ length w → length p ≡ k → length (take a w ++ p) ≡ a + k
+  length-head w a k p fits long = simp (length-append, length-take) (omega arith)
 
   pub length-put : (w : List A) (a k : ℕ) (p : List A) → a + k ≤ length w → length p ≡ k → length (put w a k p) ≡ length w
   unfolding put
@@ -97,7 +100,7 @@ module _ {A : Type 0} where
     where
       behind : (q : List A) → length q ≡ k → part (put w a k q) b m ≡ part (drop k (drop a w)) (b - (a + k)) m
       behind q e =
-          let both : length (take a w ++ q) ≡ a + k = length-append (take a w) q ∙ omega (arith, length-fore w a (omega arith)) in
+          let both = length-head w a k q (omega arith) e in
           rw (← append-assoc (take a w) q (drop k (drop a w))) (part-behind (take a w ++ q) (drop k (drop a w)) (a + k) b m both h)
 
   -- ---- records of one size, side by side from `base` on: one that is put leaves each other as it was
@@ -105,7 +108,7 @@ module _ {A : Type 0} where
       → part (put w (base + size * i) size p) (base + size * j) size ≡ part w (base + size * j) size
   record-other w base size i p j fits long ne = by (decLt j i)
     where
-      -- the record after m ends no later than a higher one starts
+      -- a record ends no later than a higher one starts
       ends : (m n : ℕ) → m < n → base + size * m + size ≤ base + size * n
       ends m n h = omega (arith, mul-le-mul-left size h, mul-suc size m)
 
@@ -188,7 +191,7 @@ module _ {A : Type 0} where
       rest = drop k (drop a w)
 
       both : length (take a w ++ p) ≡ a + k
-      both = length-append (take a w) p ∙ omega (arith, length-fore w a (omega arith))
+      both = length-head w a k p (omega arith) long
 
       fore : take (a + k) (take a w ++ (p ++ rest)) ≡ take a w ++ p
       fore = ap (take (a + k)) (sym (append-assoc (take a w) p rest)) ∙ take-at (take a w ++ p) rest (a + k) both

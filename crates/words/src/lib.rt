@@ -1,9 +1,8 @@
 // The words of a table that is lent as a slice: read, written, copied. The readers answer for every place, with 0 past the end.
 ghost use mathlib.Core.Path.{_≡_};
-ghost use mathlib.Core.List.{List, [], _∷_};
-ghost use Prim.Native.Nat.{ℕ, _+_, _*_, _^_, _<_, _≤_};
-ghost use lib.IntN.{ℤ, pos};
-ghost use lib.ListN.{length, getD, set, replicate};
+ghost use Prim.Native.Nat.{_+_, _^_, _<_, _≤_};
+ghost use lib.IntN.{pos};
+ghost use lib.ListN.{length, set, replicate};
 ghost use Rattle.words.specs.Parts.{part, put, CanCopy};
 ghost use Rattle.words.specs.Layout.{nodeStart, entryStart, nodeLimit, fullNode, InTable, nodeAt, setNode};
 ghost use Rattle.words.specs.Words.{wordAt, natOf, rowAt, rowsAt, inLine, TwoRows};
@@ -64,7 +63,7 @@ pub fn number(n: usize) -> i32
     n as i32
 }
 
-// The four words from a place on. A place past the end is told apart, since the places after it might not be numbers of the machine.
+// The four words from a place on. A place past the end is told apart, since the sums below might wrap there.
 pub fn row(t: &[i32], at: usize) -> [i32; 4]
     ensures { λ r. ⌜ r ≡ rowAt (now (t .entry)) at ⌝ }
 {
@@ -91,7 +90,7 @@ pub fn rows(t: &[i32], at: usize) -> [[i32; 4]; 2]
     }
 }
 
-// A row written from a place on. The laws of what is put ask for its length: the row's type has it, and the contract hands it on.
+// Writes a row from a place on. The laws of `put` ask for the row's length: its type has it, and the contract hands it on.
 pub fn put_row(t: &mut [i32], at: usize, r: [i32; 4])
     requires { ⌜ at + 4 ≤ length (now t) ⌝ }
     ensures { λ _. ⌜ (now (t .exit) ≡ put (now (t .entry)) at 4 r) × (length r ≡ 4) ⌝ }
@@ -102,7 +101,7 @@ pub fn put_row(t: &mut [i32], at: usize, r: [i32; 4])
     t[at + 3] = r[3];
 }
 
-// Two rows written one after the other from a place on.
+// Writes two rows one after the other from a place on.
 pub fn put_rows(t: &mut [i32], at: usize, b: [[i32; 4]; 2])
     requires { ⌜ at + 8 ≤ length (now t) ⌝ }
     ensures { λ _. ⌜ (now (t .exit) ≡ put (now (t .entry)) at 8 (inLine b)) × TwoRows b ⌝ }
@@ -111,7 +110,7 @@ pub fn put_rows(t: &mut [i32], at: usize, b: [[i32; 4]; 2])
     put_row(t, at + 4, b[1]);
 }
 
-// The run of n words from `from` on, copied to the run from `to` on.
+// Copies the n words from `from` on to the places from `to` on.
 pub fn copy_within(t: &mut [i32], from: usize, to: usize, n: usize)
     requires { ⌜ CanCopy (now t) from to n ⌝ }
     ensures { λ _. ⌜ now (t .exit) ≡ put (now (t .entry)) to n (part (now (t .entry)) from n) ⌝ }
@@ -123,7 +122,7 @@ pub fn copy_within(t: &mut [i32], from: usize, to: usize, n: usize)
     }
 }
 
-// One value in each of the n words from `from` on.
+// Writes one value to each of the n words from `from` on.
 pub fn fill(t: &mut [i32], from: usize, n: usize, v: i32)
     requires { ⌜ from + n ≤ length (now t) ⌝ }
     ensures { λ _. ⌜ now (t .exit) ≡ put (now (t .entry)) from n (replicate n v) ⌝ }
@@ -135,7 +134,7 @@ pub fn fill(t: &mut [i32], from: usize, n: usize, v: i32)
     }
 }
 
-// The count of a node that is lent by itself.
+// Writes the count of a node whose words are lent by themselves.
 fn put_count(node: &mut [i32], n: i32)
     requires { ⌜ 0 < length (now node) ⌝ }
     ensures { λ _. ⌜ now (node .exit) ≡ set (now (node .entry)) 0 n ⌝ }
@@ -143,7 +142,7 @@ fn put_count(node: &mut [i32], n: i32)
     node[0] = n;
 }
 
-// The count of node i: the node's words are lent on, and all others stay as they are.
+// Writes the count of node i. The node's words are lent on, so all others are seen to stay as they are.
 pub fn with_count(t: &mut [i32], i: usize, n: i32)
     requires { ⌜ InTable (now t) i ⌝ }
     ensures { λ _. ⌜ now (t .exit) ≡ setNode (now (t .entry)) i (set (nodeAt (now (t .entry)) i) 0 n) ⌝ }

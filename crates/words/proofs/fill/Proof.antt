@@ -1,7 +1,6 @@
 use mathlib.Core.Path.{refl, sym}
 use mathlib.Core.List.{List}
 use Prim.Native.Nat.{ℕ, _-_}
-use native.Mathlib.Omega.{arith}
 use borrow.Author.Needs.{needs}
 use lib.IntN.{ℤ}
 use lib.ListN.{replicate, length-replicate, replicate-append-replicate}
@@ -22,7 +21,7 @@ abbrev μ-loop : tie.MeasureT-loop
 μ-loop t₀ from n v j₀ t j = n - j
 
 loop-holds : tie.Need-loop-holds Inv-loop μ-loop
-loop-holds c = let a = c .args in written-none (copies (toZ w32 (ofZ w32 (a .v)))) (a .t .now) (a .from) (a .n) refl
+loop-holds c = written-none refl
 
 add-v : tie.Need-add-v Inv-loop μ-loop
 add-v c = search needs
@@ -41,23 +40,16 @@ loop-less c = search needs
 
 loop-again : tie.Need-loop-again Inv-loop μ-loop
 loop-again c =
-    let a = c .before .before .args in
-    let v = toZ w32 (ofZ w32 (a .v)) in
-    let so-far = c .before .loop in
-    let j = so-far .j in
-    written-next (copies v) (a .t .now) (a .from) (a .n) (so-far .t) j (so-far .inv) v
-    (c .before .before .pre) (search needs) (length-replicate j v) (sym (replicate-append-replicate j 1 v))
+    let s = c .before .before in
+    let j = c .before .loop .j in
+    let v = toZ w32 (ofZ w32 (s .args .v)) in
+    written-next (c .before .loop .inv) v (s .pre) (search needs) (length-replicate j v) (sym (replicate-append-replicate j 1 v))
 
 same-length : tie.Need-same-length Inv-loop μ-loop
 same-length c = search needs
 
 returns : tie.Need-returns Inv-loop μ-loop
-returns c =
-    let s = c .before .before in
-    let a = s .args in
-    let at-end = c .before .loop in
-    simp (back (s .fits .v)) at
-    (written-all (copies (toZ w32 (ofZ w32 (a .v)))) (a .t .now) (a .from) (a .n) (at-end .t) (at-end .j) (at-end .inv) (search needs))
+returns c = simp (back (c .before .before .fits .v)) at (written-all (c .before .loop .inv) (search needs))
 
 pub fill-spec : {M : Type 1} → statement M
 fill-spec =

@@ -76,8 +76,11 @@ returns c =
     let a = c .before .before .before .before .args in
     let r = a .t3 in
     let long : length r ≡ 4 = search needs in
-    simp (read-at w32 r 0 (c .before .before .before .t .given), read-at w32 r 1 (c .before .before .t2 .given), read-at w32 r 2 (c .before .t3 .given), read-at w32 r 3 (c .t4 .given))
-    (four-stores (a .t .now) (a .at) r (search needs) long, long)
+    let r₀ = read-at w32 r 0 (c .before .before .before .t .given) in
+    let r₁ = read-at w32 r 1 (c .before .before .t2 .given) in
+    let r₂ = read-at w32 r 2 (c .before .t3 .given) in
+    let r₃ = read-at w32 r 3 (c .t4 .given) in
+    simp (r₀, r₁, r₂, r₃) (four-stores (a .t .now) (a .at) r (search needs) long, long)
 
 pub put-row-spec : {M : Type 1} → statement M
 put-row-spec =

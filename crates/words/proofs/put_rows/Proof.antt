@@ -1,7 +1,6 @@
-use mathlib.Core.Path.{_≡_}
 use mathlib.Core.List.{[]}
 use native.Mathlib.Omega.{arith}
-use lib.ListN.{length, getD}
+use lib.ListN.{getD}
 use Rattle.words.specs.PartLaws.{put-beside}
 use borrow.Author.Needs.{needs}
 use Rattle.words.proofs.put_rows.Statement.{statement}

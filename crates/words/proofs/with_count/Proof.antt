@@ -33,7 +33,9 @@ returns : tie.Need-returns
 returns c =
     let s = c .before .before .before .before in
     let a = s .args in
-    lent-node (λ n. set n 0 (a .n)) (a .t .now) (a .i) (c .before .before .before .node-start .result) (c .before .put-count .last .0) (search needs) (simp (back (s .fits .n)) at (c .before .put-count .ensures))
+    let start = c .before .before .before .node-start .result in
+    let call = c .before .put-count in
+    lent-node (λ n. set n 0 (a .n)) (a .t .now) (a .i) start (call .last .0) (search needs) (simp (back (s .fits .n)) at (call .ensures))
 
 pub with-count-spec : {M : Type 1} → statement M
 with-count-spec =
