@@ -1,0 +1,6 @@
+pub mod Parts
+pub mod PartLaws
+pub mod Layout
+pub mod LayoutLaws
+pub mod Words
+pub mod WordLaws

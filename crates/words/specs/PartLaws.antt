@@ -1,0 +1,238 @@
+-- Laws of `part` and `put`, for lists of any type. Those that simplify are in the set `part-rules`, for `simp`, which looks for their side
+-- conditions among the variables in scope.
+use mathlib.Core.Path.{_≡_, ap, sym, _∙_}
+use mathlib.Core.List.{List, [], _∷_, _++_, append-assoc}
+use Prim.Native.Nat.{ℕ, zero, suc, _+_, _*_, _-_, _<_, _≤_}
+use native.Mathlib.Decide.{decLt}
+use native.Mathlib.Nat.{add-sub-cancel-left, mul-le-mul-left, mul-suc}
+use native.Mathlib.Numerals.{add-one, unary-clauses}
+use native.Mathlib.Omega.{arith}
+use borrow.Rule.Slice.PartMut.{putMid, set-mid-at}
+use lib.ListN.{length, getD, take, drop, set, length-take, length-drop, length-append, List·getD-append, take-append-drop}
+use lib.Seq.{getD-take, getD-drop, getD-append-add, take-at, drop-at, take-take, take-add, take-nil, drop-drop, drop-cons, take-append-le, drop-append-le, drop-append-add}
+use lib.Seq.{take-set-le, take-set-lt, drop-set-lt, drop-set-add, set-split, sets, sets-eq}
+use Rattle.words.specs.Parts.{part, put}
+
+module _ {A : Type 0} where
+  -- ---- lengths
+  pub length-part : (w : List A) (a k : ℕ) → a + k ≤ length w → length (part w a k) ≡ k
+  unfolding part
+  length-part w a k fits = simp (length-take, length-drop) (omega arith)
+
+  length-fore : (w : List A) (a : ℕ) → a ≤ length w → length (take a w) ≡ a
+  length-fore w a fits = simp length-take (omega arith)
+
+  length-head : (w : List A) (a k : ℕ) (p : List A) → a ≤ length w → length p ≡ k → length (take a w ++ p) ≡ a + k
+  length-head w a k p fits long = simp (length-append, length-take) (omega arith)
+
+  pub length-put : (w : List A) (a k : ℕ) (p : List A) → a + k ≤ length w → length p ≡ k → length (put w a k p) ≡ length w
+  unfolding put
+  length-put w a k p fits long = simp (length-append, length-take, length-drop) (omega arith)
+
+  -- ---- single elements
+  pub getD-part : (w : List A) (a k j : ℕ) (d : A) → j < k → getD (part w a k) j d ≡ getD w (a + j) d
+  unfolding part
+  getD-part w a k j d h = rw (getD-take, getD-drop)
+
+  pub getD-put-below : (w : List A) (a k : ℕ) (p : List A) (j : ℕ) (d : A) → a + k ≤ length w → j < a → getD (put w a k p) j d ≡ getD w j d
+  unfolding put
+  getD-put-below w a k p j d fits h =
+      List·getD-append (take a w) (p ++ drop k (drop a w)) d j (omega (arith, length-fore w a (omega arith))) ∙ getD-take a w j d h
+
+  pub getD-put-in : (w : List A) (a k : ℕ) (p : List A) (j : ℕ) (d : A) → a + k ≤ length w → length p ≡ k → j < k → getD (put w a k p) (a + j) d ≡ getD p j d
+  unfolding put
+  getD-put-in w a k p j d fits long h =
+      ap (λ (m : ℕ). getD (take a w ++ (p ++ drop k (drop a w))) (m + j) d) (sym (length-fore w a (omega arith)))
+      ∙ getD-append-add (take a w) (p ++ drop k (drop a w)) j d
+      ∙ List·getD-append p (drop k (drop a w)) d j (omega arith)
+
+  pub getD-put-above : (w : List A) (a k : ℕ) (p : List A) (j : ℕ) (d : A) → a + k ≤ length w → length p ≡ k → a + k ≤ j → getD (put w a k p) j d ≡ getD w j d
+  unfolding put
+  getD-put-above w a k p j d fits long h =
+      let fore = length-fore w a (omega arith) in
+      let at : j ≡ length (take a w) + (length p + (j - (a + k))) = omega arith in
+      let back : a + (k + (j - (a + k))) ≡ j = omega arith in
+      rw at (rw (getD-append-add (take a w), getD-append-add p, getD-drop, getD-drop) (ap (λ (n : ℕ). getD w n d) (back ∙ at)))
+
+  -- ---- a part of what was put, and what is put in the place of a part
+  pub put-part : (w : List A) (a k : ℕ) → put w a k (part w a k) ≡ w
+  unfolding part put
+  put-part w a k = rw (take-append-drop k (drop a w)) (take-append-drop a w)
+
+  pub part-put : (w : List A) (a k : ℕ) (p : List A) → a + k ≤ length w → length p ≡ k → part (put w a k p) a k ≡ p
+  unfolding part put
+  part-put w a k p fits long =
+      rw (drop-at (take a w) (p ++ drop k (drop a w)) a (length-fore w a (omega arith))) (take-at p (drop k (drop a w)) k long)
+
+  pub put-put : (w : List A) (a k : ℕ) (p q : List A) → a + k ≤ length w → length p ≡ k → put (put w a k p) a k q ≡ put w a k q
+  unfolding put
+  put-put w a k p q fits long =
+      let fore = length-fore w a (omega arith) in
+      rw (take-at (take a w) (p ++ drop k (drop a w)) a fore, drop-at (take a w) (p ++ drop k (drop a w)) a fore, drop-at p (drop k (drop a w)) k long)
+
+  -- ---- a part of a list in two halves
+  part-front : (f x : List A) (b m : ℕ) → b + m ≤ length f → part (f ++ x) b m ≡ part f b m
+  unfolding part
+  part-front f x b m h =
+      let h₁ : b ≤ length f = omega arith in
+      let h₂ : m ≤ length (drop b f) = omega (arith, length-drop b f) in
+      rw (drop-append-le b f x, take-append-le m (drop b f) x)
+
+  part-behind : (f x : List A) (n b m : ℕ) → length f ≡ n → n ≤ b → part (f ++ x) b m ≡ part x (b - n) m
+  unfolding part
+  part-behind f x n b m e h =
+      let at : b ≡ length f + (b - n) = omega arith in
+      ap (λ (j : ℕ). take m (drop j (f ++ x))) at ∙ ap (take m) (drop-append-add f x (b - n))
+
+  -- ---- a part that lies apart from what was put is as it was, also where it reaches past the end
+  pub part-put-below : (w : List A) (a k : ℕ) (p : List A) (b m : ℕ) → a + k ≤ length w → b + m ≤ a → part (put w a k p) b m ≡ part w b m
+  unfolding put
+  part-put-below w a k p b m fits h =
+      let below : b + m ≤ length (take a w) = omega (arith, length-fore w a (omega arith)) in
+      part-front (take a w) (p ++ drop k (drop a w)) b m below
+      ∙ sym (part-front (take a w) (drop a w) b m below)
+      ∙ ap (λ (l : List A). part l b m) (take-append-drop a w)
+
+  pub part-put-above : (w : List A) (a k : ℕ) (p : List A) (b m : ℕ) → a + k ≤ length w → length p ≡ k → a + k ≤ b → part (put w a k p) b m ≡ part w b m
+  unfolding put
+  part-put-above w a k p b m fits long h =
+      behind p long ∙ sym (behind (part w a k) (length-part w a k fits)) ∙ ap (λ (l : List A). part l b m) (put-part w a k)
+    where
+      behind : (q : List A) → length q ≡ k → part (put w a k q) b m ≡ part (drop k (drop a w)) (b - (a + k)) m
+      behind q e =
+          let both = length-head w a k q (omega arith) e in
+          rw (← append-assoc (take a w) q (drop k (drop a w))) (part-behind (take a w ++ q) (drop k (drop a w)) (a + k) b m both h)
+
+  -- ---- records of one size, side by side from `base` on: one that is put leaves each other as it was
+  pub record-other : (w : List A) (base size i : ℕ) (p : List A) (j : ℕ) → base + size * i + size ≤ length w → length p ≡ size → (j ≡ i → ⊥)
+      → part (put w (base + size * i) size p) (base + size * j) size ≡ part w (base + size * j) size
+  record-other w base size i p j fits long ne = by (decLt j i)
+    where
+      -- a record ends no later than a higher one starts
+      ends : (m n : ℕ) → m < n → base + size * m + size ≤ base + size * n
+      ends m n h = omega (arith, mul-le-mul-left size h, mul-suc size m)
+
+      by : Dec (j < i) → part (put w (base + size * i) size p) (base + size * j) size ≡ part w (base + size * j) size
+      by (yes below) = part-put-below w (base + size * i) size p (base + size * j) size fits (ends j i below)
+      by (no not-below) = part-put-above w (base + size * i) size p (base + size * j) size fits long (ends i j (omega arith))
+
+  -- ---- a part of a part, and what is put into a part
+  drop-take : (b k : ℕ) (l : List A) → drop b (take k l) ≡ take (k - b) (drop b l)
+  drop-take zero k l = simp unary-clauses
+  drop-take (suc b) zero l = let none : 0 - suc b ≡ 0 = omega arith in rw none
+  drop-take (suc b) (suc k) [] = simp (unary-clauses, take-nil)
+  drop-take (suc b) (suc k) (x ∷ l) = simp unary-clauses (drop-take b k l)
+
+  pub part-part : (w : List A) (a k b m : ℕ) → b + m ≤ k → part (part w a k) b m ≡ part w (a + b) m
+  unfolding part
+  part-part w a k b m h =
+      let h′ : m ≤ k - b = omega arith in
+      rw (drop-take b k (drop a w), drop-drop b a w) (take-take m (k - b) (drop (a + b) w) h′)
+
+  pub put-in-part : (w : List A) (a k b m : ℕ) (p : List A) → a + k ≤ length w → b + m ≤ k → put w a k (put (part w a k) b m p) ≡ put w (a + b) m p
+  unfolding put part
+  put-in-part w a k b m p fits h = rw (fore, aft) (simp append-assoc)
+    where
+      run : List A
+      run = take k (drop a w)
+
+      rest : List A
+      rest = drop k (drop a w)
+
+      long : length run ≡ k
+      long = length-part w a k fits
+
+      fore : take (a + b) w ≡ take a w ++ take b run
+      fore = take-add a b w ∙ ap (λ (l : List A). take a w ++ l) (sym (take-take b k (drop a w) (omega arith)))
+
+      aft : drop m (drop (a + b) w) ≡ drop m (drop b run) ++ rest
+      aft =
+          let h₁ : b ≤ length run = omega (arith, long) in
+          let h₂ : m ≤ length (drop b run) = omega (arith, long, length-drop b run) in
+          ap (drop m) (sym (drop-drop b a w) ∙ ap (drop b) (sym (take-append-drop k (drop a w))) ∙ drop-append-le b run rest h₁)
+          ∙ drop-append-le m (drop b run) rest h₂
+
+  -- ---- one store
+  pub part-set-below : (w : List A) (j : ℕ) (v : A) (a k : ℕ) → j < a → part (set w j v) a k ≡ part w a k
+  unfolding part
+  part-set-below w j v a k h = rw (drop-set-lt a w j v)
+
+  pub part-set-above : (w : List A) (j : ℕ) (v : A) (a k : ℕ) → a + k ≤ j → part (set w j v) a k ≡ part w a k
+  unfolding part
+  part-set-above w j v a k h =
+      let at : j ≡ a + (j - a) = omega arith in
+      ap (λ (n : ℕ). take k (drop a (set w n v))) at ∙ ap (take k) (drop-set-add a w (j - a) v) ∙ take-set-le k (drop a w) (j - a) v (omega arith)
+
+  pub part-set-in : (w : List A) (a k j : ℕ) (v : A) → j < k → part (set w (a + j) v) a k ≡ set (part w a k) j v
+  unfolding part
+  part-set-in w a k j v h = rw (drop-set-add a w j v) (take-set-lt k (drop a w) j v h)
+
+  pub set-in-part : (w : List A) (a k j : ℕ) (v : A) → a + k ≤ length w → j < k → set w (a + j) v ≡ put w a k (set (part w a k) j v)
+  unfolding put part
+  set-in-part w a k j v fits h =
+      let short : j < length (take k (drop a w)) = omega (arith, length-part w a k fits) in
+      sym (set-mid-at a k j w v short)
+
+  pub set-put : (w : List A) (a k : ℕ) (p : List A) (j : ℕ) (v : A) → a + k ≤ length w → length p ≡ k → j < k → set (put w a k p) (a + j) v ≡ put w a k (set p j v)
+  set-put w a k p j v fits long h =
+      let fits′ : a + k ≤ length (put w a k p) = omega (arith, length-put w a k p fits long) in
+      set-in-part (put w a k p) a k j v fits′ h ∙ simp (part-put, put-put)
+
+  -- ---- a put grows by what is put beside it
+  pub put-none : (w : List A) (a : ℕ) → put w a 0 [] ≡ w
+  unfolding put
+  put-none w a = take-append-drop a w
+
+  pub put-beside : (w : List A) (a k : ℕ) (p : List A) (m : ℕ) (q : List A) → a + k ≤ length w → length p ≡ k → put (put w a k p) (a + k) m q ≡ put w a (k + m) (p ++ q)
+  unfolding put
+  put-beside w a k p m q fits long = rw (fore, aft, drop-drop m k (drop a w)) (simp append-assoc)
+    where
+      rest : List A
+      rest = drop k (drop a w)
+
+      both : length (take a w ++ p) ≡ a + k
+      both = length-head w a k p (omega arith) long
+
+      fore : take (a + k) (take a w ++ (p ++ rest)) ≡ take a w ++ p
+      fore = ap (take (a + k)) (sym (append-assoc (take a w) p rest)) ∙ take-at (take a w ++ p) rest (a + k) both
+
+      aft : drop (a + k) (take a w ++ (p ++ rest)) ≡ rest
+      aft = ap (drop (a + k)) (sym (append-assoc (take a w) p rest)) ∙ drop-at (take a w ++ p) rest (a + k) both
+
+  pub set-is-put : (w : List A) (a : ℕ) (v : A) → a < length w → set w a v ≡ put w a 1 (v ∷ [])
+  unfolding put
+  set-is-put w a v h = rw (drop-drop 1 a w, add-one a) (set-split w a v h)
+
+  pub put-next : (w : List A) (a k : ℕ) (p : List A) (v : A) → a + k < length w → length p ≡ k → set (put w a k p) (a + k) v ≡ put w a (k + 1) (p ++ (v ∷ []))
+  put-next w a k p v h long =
+      let fits : a + k ≤ length w = omega arith in
+      let inside : a + k < length (put w a k p) = omega (arith, length-put w a k p fits long) in
+      set-is-put (put w a k p) (a + k) v inside ∙ put-beside w a k p 1 (v ∷ []) fits long
+
+  pub part-add : (w : List A) (a k m : ℕ) → part w a (k + m) ≡ part w a k ++ part w (a + k) m
+  unfolding part
+  part-add w a k m = take-add k m (drop a w) ∙ ap (λ (l : List A). take k (drop a w) ++ take m l) (drop-drop k a w)
+
+  pub part-one : (w : List A) (a : ℕ) (d : A) → a < length w → part w a 1 ≡ getD w a d ∷ []
+  unfolding part
+  part-one w a d h = rw (drop-cons w a d)
+
+  pub part-next : (w : List A) (a k : ℕ) (d : A) → a + k < length w → part w a (k + 1) ≡ part w a k ++ (getD w (a + k) d ∷ [])
+  part-next w a k d h = part-add w a k 1 ∙ ap (λ (l : List A). part w a k ++ l) (part-one w (a + k) d h)
+
+  -- stores one after the other
+  pub sets-put : (w : List A) (a : ℕ) (p : List A) → a + length p ≤ length w → sets w a p ≡ put w a (length p) p
+  unfolding put
+  sets-put w a p fits = sets-eq p w a fits ∙ simp (append-assoc, drop-drop)
+
+  -- ---- a lent part: what the code says of `&mut w[a..a + k]` while it is lent, and of the whole when it is back
+  pub lent-part : (w : List A) (a k : ℕ) → take (a + k - a) (drop a w) ≡ part w a k
+  unfolding part
+  lent-part w a k = rw (add-sub-cancel-left a k)
+
+  pub lent-back : (w : List A) (a k : ℕ) (p : List A) → putMid a (a + k - a) w p ≡ put w a k p
+  unfolding put
+  lent-back w a k p = rw (add-sub-cancel-left a k)
+
+-- for `simp`
+pub ruleset part-rules = (length-part, length-put, getD-part, getD-put-below, getD-put-in, getD-put-above, put-part, part-put, put-put, part-put-below, part-put-above)

@@ -1,0 +1,33 @@
+-- What the words of a table are read as: a number, a count, a row of four numbers, two rows. A word past the end is read as 0.
+use mathlib.Core.Path.{_≡_}
+use mathlib.Core.List.{List, [], _∷_, _++_}
+use Prim.Native.Nat.{ℕ, _+_}
+use lib.IntN.{ℤ, pos, negsuc}
+use lib.ListN.{length, getD}
+
+-- the word at `at`
+abbrev pub wordAt : List ℤ → ℕ → ℤ
+wordAt w at = getD w at (pos 0)
+
+-- a word taken for a count or an index: itself, or 0 where it is negative
+unfoldable pub natOf : ℤ → ℕ
+natOf (pos n) = n
+natOf (negsuc n) = 0
+
+-- the four words from `at` on
+unfoldable pub rowAt : List ℤ → ℕ → List ℤ
+rowAt w at = wordAt w at ∷ wordAt w (at + 1) ∷ wordAt w (at + 2) ∷ wordAt w (at + 3) ∷ []
+
+-- the two rows that stand one after the other from `at` on
+abbrev pub rowsAt : List ℤ → ℕ → List (List ℤ)
+rowsAt w at = rowAt w at ∷ rowAt w (at + 4) ∷ []
+
+-- two rows as they stand one after the other
+abbrev pub inLine : List (List ℤ) → List ℤ
+inLine b = getD b 0 [] ++ getD b 1 []
+
+-- b is two rows of four
+pub record TwoRows (b : List (List ℤ)) : Type 0 where
+  pub two : length b ≡ 2
+  pub first : length (getD b 0 []) ≡ 4
+  pub second : length (getD b 1 []) ≡ 4

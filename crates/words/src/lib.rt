@@ -1,0 +1,153 @@
+// The words of a table that is lent as a slice: read, written, copied. The readers answer for every place, with 0 past the end.
+ghost use mathlib.Core.Path.{_≡_};
+ghost use Prim.Native.Nat.{_+_, _^_, _<_, _≤_};
+ghost use lib.IntN.{pos};
+ghost use lib.ListN.{length, set, replicate};
+ghost use Rattle.words.specs.Parts.{part, put, CanCopy};
+ghost use Rattle.words.specs.Layout.{nodeStart, entryStart, nodeLimit, fullNode, InTable, nodeAt, setNode};
+ghost use Rattle.words.specs.Words.{wordAt, natOf, rowAt, rowsAt, inLine, TwoRows};
+
+// The sizes of specs/Layout.antt, for the code.
+pub const HEADER: usize = 16;
+
+pub const NODE_WORDS: usize = 96;
+
+pub const OWN_WORDS: usize = 8;
+
+pub const ENTRY_WORDS: usize = 11;
+
+pub const FULL_NODE: usize = 8;
+
+// The place of node i's first word.
+pub fn node_start(i: usize) -> usize
+    requires { ⌜ i < nodeLimit ⌝ }
+    ensures { λ r. ⌜ r ≡ nodeStart i ⌝ }
+{
+    HEADER + NODE_WORDS * i
+}
+
+// The place of the first word of node i's entry k.
+pub fn entry_start(i: usize, k: usize) -> usize
+    requires { ⌜ (i < nodeLimit) × (k < fullNode) ⌝ }
+    ensures { λ r. ⌜ r ≡ entryStart i k ⌝ }
+{
+    node_start(i) + (OWN_WORDS + ENTRY_WORDS * k)
+}
+
+// The word at a place.
+pub fn word(t: &[i32], at: usize) -> i32
+    ensures { λ r. ⌜ r ≡ wordAt (now (t .entry)) at ⌝ }
+{
+    if at < t.len() { t[at] } else { 0 }
+}
+
+// A word taken for a count or an index.
+pub fn place(z: i32) -> usize
+    ensures { λ r. ⌜ (r ≡ natOf z) × (r < 2 ^ 31) ⌝ }
+{
+    if z < 0 { 0 } else { z as usize }
+}
+
+// The word at a place, taken for a count or an index.
+pub fn place_at(t: &[i32], at: usize) -> usize
+    ensures { λ r. ⌜ (r ≡ natOf (wordAt (now (t .entry)) at)) × (r < 2 ^ 31) ⌝ }
+{
+    place(word(t, at))
+}
+
+// A count or an index as a word.
+pub fn number(n: usize) -> i32
+    requires { ⌜ n < 2 ^ 31 ⌝ }
+    ensures { λ r. ⌜ r ≡ pos n ⌝ }
+{
+    n as i32
+}
+
+// The four words from a place on. A place past the end is told apart, since the sums below might wrap there.
+pub fn row(t: &[i32], at: usize) -> [i32; 4]
+    ensures { λ r. ⌜ r ≡ rowAt (now (t .entry)) at ⌝ }
+{
+    if at < t.len() {
+        [
+            word(t, at),
+            word(t, at + 1),
+            word(t, at + 2),
+            word(t, at + 3),
+        ]
+    } else {
+        [0, 0, 0, 0]
+    }
+}
+
+// The two rows from a place on.
+pub fn rows(t: &[i32], at: usize) -> [[i32; 4]; 2]
+    ensures { λ r. ⌜ r ≡ rowsAt (now (t .entry)) at ⌝ }
+{
+    if at < t.len() {
+        [row(t, at), row(t, at + 4)]
+    } else {
+        [[0, 0, 0, 0], [0, 0, 0, 0]]
+    }
+}
+
+// Writes a row from a place on. The laws of `put` ask for the row's length: its type has it, and the contract hands it on.
+pub fn put_row(t: &mut [i32], at: usize, r: [i32; 4])
+    requires { ⌜ at + 4 ≤ length (now t) ⌝ }
+    ensures { λ _. ⌜ (now (t .exit) ≡ put (now (t .entry)) at 4 r) × (length r ≡ 4) ⌝ }
+{
+    t[at] = r[0];
+    t[at + 1] = r[1];
+    t[at + 2] = r[2];
+    t[at + 3] = r[3];
+}
+
+// Writes two rows one after the other from a place on.
+pub fn put_rows(t: &mut [i32], at: usize, b: [[i32; 4]; 2])
+    requires { ⌜ at + 8 ≤ length (now t) ⌝ }
+    ensures { λ _. ⌜ (now (t .exit) ≡ put (now (t .entry)) at 8 (inLine b)) × TwoRows b ⌝ }
+{
+    put_row(t, at, b[0]);
+    put_row(t, at + 4, b[1]);
+}
+
+// Copies the n words from `from` on to the places from `to` on.
+pub fn copy_within(t: &mut [i32], from: usize, to: usize, n: usize)
+    requires { ⌜ CanCopy (now t) from to n ⌝ }
+    ensures { λ _. ⌜ now (t .exit) ≡ put (now (t .entry)) to n (part (now (t .entry)) from n) ⌝ }
+{
+    let mut j = 0;
+    while j < n {
+        t[to + j] = t[from + j];
+        j += 1;
+    }
+}
+
+// Writes one value to each of the n words from `from` on.
+pub fn fill(t: &mut [i32], from: usize, n: usize, v: i32)
+    requires { ⌜ from + n ≤ length (now t) ⌝ }
+    ensures { λ _. ⌜ now (t .exit) ≡ put (now (t .entry)) from n (replicate n v) ⌝ }
+{
+    let mut j = 0;
+    while j < n {
+        t[from + j] = v;
+        j += 1;
+    }
+}
+
+// Writes the count of a node whose words are lent by themselves.
+fn put_count(node: &mut [i32], n: i32)
+    requires { ⌜ 0 < length (now node) ⌝ }
+    ensures { λ _. ⌜ now (node .exit) ≡ set (now (node .entry)) 0 n ⌝ }
+{
+    node[0] = n;
+}
+
+// Writes the count of node i. The node's words are lent on, so all others are seen to stay as they are.
+pub fn with_count(t: &mut [i32], i: usize, n: i32)
+    requires { ⌜ InTable (now t) i ⌝ }
+    ensures { λ _. ⌜ now (t .exit) ≡ setNode (now (t .entry)) i (set (nodeAt (now (t .entry)) i) 0 n) ⌝ }
+{
+    let a = node_start(i);
+    let e = a + NODE_WORDS;
+    put_count(&mut t[a..e], n);
+}
