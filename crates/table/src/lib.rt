@@ -1,4 +1,2 @@
 // A table of words: what is sound, and a fresh one.
-pub fn none() -> i32 {
-    0
-}
+pub mod scan;
