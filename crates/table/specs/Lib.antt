@@ -2,3 +2,4 @@ pub mod Header
 pub mod Tree
 pub mod Sound
 pub mod Scan
+pub mod SoundBy

@@ -99,7 +99,7 @@ module _ (N : Nodes) where
       ap (times j) (nodes-cons h e es) ∙ t
 
 -- a mark put on a node that had none
-mark-put : (marks : List ℕ) (c j : ℕ) → c < length marks → getD marks c 0 ≡ 0 → getD (set marks c 1) j 0 ≡ getD marks j 0 + once-if (eqb j c)
+pub mark-put : (marks : List ℕ) (c j : ℕ) → c < length marks → getD marks c 0 ≡ 0 → getD (set marks c 1) j 0 ≡ getD marks j 0 + once-if (eqb j c)
 mark-put marks c j lt z = by (ℕ-discrete j c)
   where
     by : Dec (j ≡ c) → getD (set marks c 1) j 0 ≡ getD marks j 0 + once-if (eqb j c)
