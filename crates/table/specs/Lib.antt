@@ -1,3 +1,4 @@
 pub mod Header
 pub mod Tree
 pub mod Sound
+pub mod Reach
