@@ -1,5 +1,6 @@
 pub mod Header
 pub mod Tree
 pub mod Sound
+pub mod Reach
 pub mod Scan
 pub mod SoundBy

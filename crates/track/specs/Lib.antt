@@ -8,3 +8,4 @@ pub mod Decides
 pub mod Small
 pub mod Hull
 pub mod Tracks
+pub mod HullLaws
