@@ -1,17 +1,17 @@
 -- The parts of the soundness test put together: what each of them tells of `Sound`.
 use mathlib.Core.Path.{_≡_, refl, sym, ap, ap₂, _∙_, subst}
 use mathlib.Core.Logic.{_⊎_, inl, inr, ⊎-elim}
-use mathlib.Core.List.{List, [], _∷_, _++_, map, flatMap, length-map, List·Memᴰ·head, List·Memᴰ·tail, List·Memᴰ·cases-cons, List·Memᴰ·append-cases, List·Memᴰ·not-nil, Memᴰ·map, Memᴰ·of-map}
+use mathlib.Core.List.{List, [], _∷_, _++_, map, flatMap, List·Memᴰ·head, List·Memᴰ·tail, List·Memᴰ·cases-cons, List·Memᴰ·append-cases, List·Memᴰ·not-nil, Memᴰ·map, Memᴰ·of-map}
 use Prim.Native.Nat.{ℕ, zero, suc, _+_, _≤_, _<_}
 use native.Mathlib.Decide.{ℕ-discrete}
 use native.Mathlib.Omega.{arith}
 use lib.Dec.{eqb, ltb→lt}
 use lib.IntN.{ℤ, pos}
-use lib.ListN.{length, getD, set, take, replicate}
+use lib.ListN.{length, getD, set, take, length-map}
 use lib.Signed.{_≤ℤ_, _<ℤ_, leZ-yes}
 use Rattle.whole.specs.Lists.{_∈_, NoRepeat, no-repeat-none, no-repeat-cons, no-repeat-head, no-repeat-tail}
 use Rattle.whole.specs.Order.{≤ℤ-trans}
-use Rattle.whole.specs.Times.{times, once-if, times-in, no-repeat-times, times-no-repeat}
+use Rattle.whole.specs.Times.{times, once-if, times-in, in-times, no-repeat-times, times-no-repeat}
 use Rattle.words.specs.Layout.{nodeAt, fullNode}
 use Rattle.words.specs.Words.{natOf}
 use Rattle.words.specs.WordLaws.{pos-natOf}
@@ -79,11 +79,107 @@ keys-ids (e ∷ l) f =
 
 no-repeat-map : {A B : Type 0} (f : A → B) → ((x y : A) → f x ≡ f y → x ≡ y) → {l : List A} → NoRepeat l → NoRepeat (map f l)
 no-repeat-map f inj no-repeat-none = no-repeat-none
-no-repeat-map f inj (no-repeat-cons {x} {l} new once) = no-repeat-cons (λ i. new (back i)) (no-repeat-map f inj once)
+no-repeat-map {A} f inj (no-repeat-cons {x} {l} new once) = no-repeat-cons (λ i. new (back i)) (no-repeat-map f inj once)
   where
     back : f x ∈ map f l → x ∈ l
-    back i = ?
+    back i = let r = Memᴰ·of-map f l i in subst (λ (y : A). y ∈ l) (inj (r .0) x (r .2)) (r .1)
 
 map-no-repeat : {A B : Type 0} (f : A → B) (l : List A) → NoRepeat (map f l) → NoRepeat l
 map-no-repeat f [] n = no-repeat-none
 map-no-repeat f (x ∷ l) n = no-repeat-cons (λ i. no-repeat-head n (Memᴰ·map f i)) (map-no-repeat f l (no-repeat-tail n))
+
+pos-same : (m n : ℕ) → pos m ≡ pos n → m ≡ n
+pos-same m n e = cc
+
+-- no identifier is held twice exactly when no key is
+ids-once : (l : List Entry) → ((e : Entry) → e ∈ l → CellInRange (cellOf e)) → NoRepeat (map keyOf l) → NoRepeat (map identifier (map cellOf l))
+ids-once l f n = subst NoRepeat (keys-ids l f) (no-repeat-map pos pos-same n)
+
+keys-once : (l : List Entry) → ((e : Entry) → e ∈ l → CellInRange (cellOf e)) → NoRepeat (map identifier (map cellOf l)) → NoRepeat (map keyOf l)
+keys-once l f n = map-no-repeat pos (map keyOf l) (subst NoRepeat (sym (keys-ids l f)) n)
+
+-- ---- the test's parts and `Sound`
+module _ (w : List ℤ) where
+  pub header-of : Sound w → HeaderSound w
+  header-of s = record { capacity-in = s .capacity-in; clock-in = s .clock-in; long-enough = s .long-enough; root-in = s .root-in; height-in = s .height-in }
+
+  pub root-of : Sound w → RootSound w
+  root-of s = record { counted = s .counts-in (root w) (node-below (s .root-in)); filled = s .root-filled }
+
+  -- the marks before the pass: one on the root
+  pub record RootMarked (marks : List ℕ) : Type 0 where
+    pub marked : (j : ℕ) → getD marks j 0 ≡ once-if (eqb j (root w))
+
+  reached-times : (j : ℕ) → times j (reached w) ≡ once-if (eqb j (root w)) + times j (nodesIn (entriesAt w) (height w) (entriesAt w (root w)))
+  unfolding times
+  reached-times j = ap (times j) (nodes-in (entriesAt w) (height w) (root w))
+
+  leaves-held : length (held w) ≡ length (leavesIn (entriesAt w) (height w) (entriesAt w (root w)))
+  leaves-held = length-map (leavesOf (entriesAt w) (height w) (root w)) cellOf ∙ ap length (leaves-in (entriesAt w) (height w) (root w))
+
+  -- ---- a sound table passes
+  pub passes-of : (marks : List ℕ) → RootMarked marks → Sound w → Passes (entriesAt w) (Counted w) (capacity w) (clock w) (height w) (entriesAt w (root w)) marks 0
+  passes-of marks k s =
+      let t = sound-in (entriesAt w) (capacity w) (clock w) (height w) (root w) (s .tree) in
+      record {
+        sound = t;
+        counted = λ j i. s .counts-in j (nodes-below (entriesAt w) (capacity w) (clock w) (height w) (entriesAt w (root w)) t j i);
+        once = λ j. omega (arith, k .marked j, reached-times j, no-repeat-times (s .reached-once) j);
+        room = omega (arith, s .few-cells, leaves-held);
+      }
+
+  -- ---- what a pass leaves to test
+  pub record RestFree (marks : List ℕ) : Type 0 where
+    pub free : (i : ℕ) → i < nodesFor (capacity w) → getD marks i 0 ≡ 0 → countWord (nodeAt w i) ≡ pos 0
+
+  module _ (marks : List ℕ) (k : RootMarked marks) (keys : List ℕ) (m : ℕ) (marks′ keys′ : List ℕ)
+      (p : Passes (entriesAt w) (Counted w) (capacity w) (clock w) (height w) (entriesAt w (root w)) marks 0)
+      (l : Leaves (entriesAt w) (height w) (entriesAt w (root w)) marks keys 0 m marks′ keys′) where
+    marked-times : (j : ℕ) → getD marks′ j 0 ≡ times j (reached w)
+    marked-times j = omega (arith, l .marked j, k .marked j, reached-times j)
+
+    gathered-keys : take m keys′ ≡ map keyOf (leavesOf (entriesAt w) (height w) (root w))
+    gathered-keys = l .gathered ∙ ap (map keyOf) (sym (leaves-in (entriesAt w) (height w) (root w)))
+
+    in-cells : (e : Entry) → e ∈ leavesOf (entriesAt w) (height w) (root w) → CellInRange (cellOf e)
+    in-cells e i = cells-in (entriesAt w) (capacity w) (clock w) (height w) (entriesAt w (root w)) (p .sound) e (rw (leaves-in (entriesAt w) (height w) (root w)) at i)
+
+    pub free-of : Sound w → RestFree marks′
+    free-of s = record {
+      free = λ i lt z. ⊎-elim (λ e. e) (λ r. absurd (not-met i z r)) (s .free-or-reached i lt);
+    }
+      where
+        not-met : (i : ℕ) → getD marks′ i 0 ≡ 0 → i ∈ reached w → ⊥
+        not-met i z r = omega (arith, marked-times i, in-times r)
+
+    pub keys-of : Sound w → NoRepeat (take m keys′)
+    keys-of s = subst NoRepeat (sym gathered-keys) (keys-once (leavesOf (entriesAt w) (height w) (root w)) in-cells (s .identifiers-once))
+
+    pub sound-of : HeaderSound w → RootSound w → RestFree marks′ → NoRepeat (take m keys′) → Sound w
+    sound-of h r f n = record {
+      capacity-in = h .capacity-in;
+      clock-in = h .clock-in;
+      long-enough = h .long-enough;
+      root-in = h .root-in;
+      height-in = h .height-in;
+      counts-in = counts;
+      root-filled = r .filled;
+      tree = in-sound (entriesAt w) (capacity w) (clock w) (height w) (root w) (p .sound);
+      reached-once = times-no-repeat (reached w) (λ j. omega (arith, p .once j, k .marked j, reached-times j));
+      free-or-reached = free-or;
+      few-cells = omega (arith, p .room, leaves-held);
+      identifiers-once = ids-once (leavesOf (entriesAt w) (height w) (root w)) in-cells (subst NoRepeat gathered-keys n);
+    }
+      where
+        free-or : (i : ℕ) → i < nodesFor (capacity w) → (countWord (nodeAt w i) ≡ pos 0) ⊎ (i ∈ reached w)
+        free-or i lt = by (ℕ-discrete (getD marks′ i 0) 0)
+          where
+            by : Dec (getD marks′ i 0 ≡ 0) → (countWord (nodeAt w i) ≡ pos 0) ⊎ (i ∈ reached w)
+            by (yes z) = inl (f .free i lt z)
+            by (no z) = inr (times-in (reached w) (omega (arith, marked-times i)))
+
+        counts : (i : ℕ) → i < nodesFor (capacity w) → IsCount (countWord (nodeAt w i))
+        counts i lt = ⊎-elim (λ z. rw z (record { from = leZ-yes tt; to = leZ-yes tt })) met (free-or i lt)
+          where
+            met : i ∈ reached w → IsCount (countWord (nodeAt w i))
+            met q = ⊎-elim (λ e. rw e (r .counted)) (p .counted i) (List·Memᴰ·cases-cons (rw (nodes-in (entriesAt w) (height w) (root w)) at q))
