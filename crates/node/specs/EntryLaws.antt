@@ -6,11 +6,13 @@ use native.Mathlib.Nat.{not-suc-le-zero}
 use native.Mathlib.Numerals.{add-one}
 use native.Mathlib.Decide.{decLt}
 use native.Mathlib.Omega.{arith}
-use lib.Dec.{leb→le}
+use lib.Dec.{leb, leb→le}
 use lib.IntN.{ℤ, pos, negsuc}
+use lib.Signed.{_≤ℤ_, leZ-yes}
 use lib.ListN.{length, getD, drop, length-append, List·getD-append, drop-of-length-le}
 use lib.Seq.{drop-cons, getD-at}
 use Rattle.whole.specs.Lists.{_∈_, at-in}
+use Rattle.whole.specs.Tells.{Tells}
 use Rattle.words.specs.Layout.{entryAt, entryOffset, entryWords, fullNode}
 use Rattle.words.specs.Words.{natOf, rowsAt}
 use Rattle.words.specs.WordLaws.{rowsAt-in-part}
@@ -45,6 +47,12 @@ count-is node h = same (countWord node) h
     same : (z : ℤ) → IsCount z → z ≡ pos (min (natOf z) fullNode)
     same (pos n) h = ap pos (omega (arith, leb→le n fullNode (h .to .le)))
     same (negsuc n) h = absurd (h .from .le)
+
+-- a word that is not negative is a count where it is no more than a node has room for
+pub counted : (z : ℤ) → pos 0 ≤ℤ z → Tells (leb (natOf z) fullNode) (IsCount z)
+unfolding natOf
+counted (pos n) h = record { sure = λ t. record { from = h; to = leZ-yes t }; seen = λ k. k .to .le }
+counted (negsuc n) h = absurd (h .le)
 
 -- ---- the entries
 module _ (node : List ℤ) where

@@ -32,7 +32,7 @@ pub fn is_counted(node: &[i32]) -> bool
     if n < 0 {
         return false;
     }
-    n <= 8
+    place(n) <= FULL_NODE
 }
 
 // The place of entry k's first word in its node.
@@ -62,7 +62,9 @@ pub fn cell(node: &[i32], k: usize) -> Cell
         vx: entry_word(node, k, 2),
         y: entry_word(node, k, 3),
         vy: entry_word(node, k, 4),
-        expiry: Minute { at: entry_word(node, k, 5) },
+        expiry: Minute {
+            at: entry_word(node, k, 5),
+        },
     }
 }
 

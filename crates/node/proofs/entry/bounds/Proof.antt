@@ -1,40 +1,36 @@
+use mathlib.Core.Path.{sym, ap, _∙_}
+use Rattle.node.specs.Entry.{boundsOf}
+use Rattle.node.specs.EntryLaws.{entry-rows}
 use borrow.Author.Needs.{needs}
 use Rattle.node.proofs.entry.bounds.Statement.{statement}
 use Rattle.node.proofs.entry.bounds.Tie as tie
-use Rattle.node.proofs.entry.bounds.Reads as reads
-use Rattle.node.proofs.entry.bounds.Lts as lts
-use Rattle.node.proofs.entry.cell.Reads as cell-reads
-use Rattle.node.proofs.entry.entry_offset.Reads as entry-offset-reads
-use Rattle.track.proofs.meeting.cell_bounds.Reads as cell-bounds-reads
-use Rattle.words.proofs.rows.Reads as rows-reads
 
--- src/entry.rt:99:21
 cell-requires : tie.Need-cell-requires
 cell-requires c κs = search needs
 
--- src/entry.rt:99:9
 cell-bounds-requires : tie.Need-cell-bounds-requires
 cell-bounds-requires c κs = search needs
 
--- src/entry.rt:101:20
 entry-offset-requires : tie.Need-entry-offset-requires
 entry-offset-requires c κs = search needs
 
--- src/entry.rt:101:20
 add-rows : tie.Need-add-rows
 add-rows c = search needs
 
--- src/entry.rt:101:9
 rows-requires : tie.Need-rows-requires
 rows-requires c κs = search needs
 
--- src/entry.rt:94:1
 returns : tie.Need-returns
-returns c = ?
+unfolding boundsOf
+returns c =
+    let made = c .before .cell .ensures in
+    rw (c .before .before .if1 .taken, ← made) (c .cell-bounds .ensures)
 
--- src/entry.rt:94:1
 returns-2 : tie.Need-returns-2
-returns-2 c = ?
+unfolding boundsOf
+returns-2 c =
+    let a = c .before .before .before .args in
+    rw (c .before .before .if1 .left) (c .rows .ensures ∙ rw (c .before .entry-offset .ensures) (sym (entry-rows (a .node .now) (a .k))))
 
 pub bounds-spec : {M : Type 1} → statement M
 bounds-spec =

@@ -1,37 +1,38 @@
+use Rattle.words.specs.WordLaws.{word-back}
+use Rattle.node.specs.Entry.{cellOf}
 use borrow.Author.Needs.{needs}
 use Rattle.node.proofs.entry.cell.Statement.{statement}
 use Rattle.node.proofs.entry.cell.Tie as tie
-use Rattle.node.proofs.entry.cell.Reads as reads
-use Rattle.node.proofs.entry.cell.Lts as lts
-use Rattle.node.proofs.entry.entry_word.Reads as entry-word-reads
 
--- src/entry.rt:60:13
 entry-word-requires : tie.Need-entry-word-requires
 entry-word-requires c κs = search needs
 
--- src/entry.rt:61:12
 entry-word-requires-2 : tie.Need-entry-word-requires-2
 entry-word-requires-2 c κs = search needs
 
--- src/entry.rt:62:13
 entry-word-requires-3 : tie.Need-entry-word-requires-3
 entry-word-requires-3 c κs = search needs
 
--- src/entry.rt:63:12
 entry-word-requires-4 : tie.Need-entry-word-requires-4
 entry-word-requires-4 c κs = search needs
 
--- src/entry.rt:64:13
 entry-word-requires-5 : tie.Need-entry-word-requires-5
 entry-word-requires-5 c κs = search needs
 
--- src/entry.rt:65:30
 entry-word-requires-6 : tie.Need-entry-word-requires-6
 entry-word-requires-6 c κs = search needs
 
--- src/entry.rt:55:1
 returns : tie.Need-returns
-returns c = ?
+unfolding cellOf
+returns c =
+    let w₀ = c .before .before .before .before .before .entry-word in
+    let w₁ = c .before .before .before .before .entry-word2 in
+    let w₂ = c .before .before .before .entry-word3 in
+    let w₃ = c .before .before .entry-word4 in
+    let w₄ = c .before .entry-word5 in
+    let w₅ = c .entry-word6 in
+    simp (word-back (w₀ .result) (w₀ .ok), word-back (w₁ .result) (w₁ .ok), word-back (w₂ .result) (w₂ .ok), word-back (w₃ .result) (w₃ .ok), word-back (w₄ .result) (w₄ .ok), word-back (w₅ .result) (w₅ .ok))
+    (rw (w₀ .ensures, w₁ .ensures, w₂ .ensures, w₃ .ensures, w₄ .ensures, w₅ .ensures))
 
 pub cell-spec : {M : Type 1} → statement M
 cell-spec =
