@@ -1,0 +1,45 @@
+use mathlib.Core.Path.{sym, ap, _∙_}
+use Rattle.node.specs.Entry.{boundsOf}
+use Rattle.node.specs.EntryLaws.{entry-rows}
+use borrow.Author.Needs.{needs}
+use Rattle.node.proofs.entry.bounds.Statement.{statement}
+use Rattle.node.proofs.entry.bounds.Tie as tie
+
+cell-requires : tie.Need-cell-requires
+cell-requires c κs = search needs
+
+cell-bounds-requires : tie.Need-cell-bounds-requires
+cell-bounds-requires c κs = search needs
+
+entry-offset-requires : tie.Need-entry-offset-requires
+entry-offset-requires c κs = search needs
+
+add-rows : tie.Need-add-rows
+add-rows c = search needs
+
+rows-requires : tie.Need-rows-requires
+rows-requires c κs = search needs
+
+returns : tie.Need-returns
+unfolding boundsOf
+returns c =
+    let made = c .before .cell .ensures in
+    rw (c .before .before .if1 .taken, ← made) (c .cell-bounds .ensures)
+
+returns-2 : tie.Need-returns-2
+unfolding boundsOf
+returns-2 c =
+    let a = c .before .before .before .args in
+    rw (c .before .before .if1 .left) (c .rows .ensures ∙ rw (c .before .entry-offset .ensures) (sym (entry-rows (a .node .now) (a .k))))
+
+pub bounds-spec : {M : Type 1} → statement M
+bounds-spec =
+    tie.close
+    (tie.spec
+    cell-requires
+    cell-bounds-requires
+    entry-offset-requires
+    add-rows
+    rows-requires
+    returns
+    returns-2)

@@ -1,0 +1,19 @@
+use native.Mathlib.Omega.{arith}
+use Rattle.node.specs.Entry.{countOf}
+use borrow.Author.Needs.{needs}
+use Rattle.node.proofs.entry.count.Statement.{statement}
+use Rattle.node.proofs.entry.count.Tie as tie
+
+place-at-requires : tie.Need-place-at-requires
+place-at-requires c κs = search needs
+
+returns : tie.Need-returns
+unfolding countOf
+returns c = omega arith
+
+returns-2 : tie.Need-returns-2
+unfolding countOf
+returns-2 c = omega arith
+
+pub count-spec : {M : Type 1} → statement M
+count-spec = tie.close (tie.spec place-at-requires returns returns-2)

@@ -1,0 +1,25 @@
+use mathlib.Core.Path.{sym, _∙_}
+use Rattle.words.specs.LayoutLaws.{word-entryAt}
+use Rattle.words.specs.WordLaws.{word-back}
+use lib.IntN.{pos}
+use borrow.Author.Needs.{needs}
+use Rattle.node.proofs.entry.entry_word.Statement.{statement}
+use Rattle.node.proofs.entry.entry_word.Tie as tie
+
+entry-offset-requires : tie.Need-entry-offset-requires
+entry-offset-requires c κs = search needs
+
+add-word : tie.Need-add-word
+add-word c = search needs
+
+word-requires : tie.Need-word-requires
+word-requires c κs = search needs
+
+returns : tie.Need-returns
+returns c =
+    let a = c .before .before .args in
+    let read = c .word in
+    word-back (read .result) (read .ok) ∙ read .ensures ∙ rw (c .before .entry-offset .ensures) (sym (word-entryAt (a .node .now) (a .k) (a .at) (pos 0) (search needs)))
+
+pub entry-word-spec : {M : Type 1} → statement M
+entry-word-spec = tie.close (tie.spec entry-offset-requires add-word word-requires returns)

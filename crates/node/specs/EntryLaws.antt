@@ -1,0 +1,84 @@
+-- Laws of a node's entries, one by one and from one on.
+use mathlib.Core.Path.{_≡_, refl, sym, ap, _∙_}
+use mathlib.Core.List.{List, [], _∷_, _++_}
+use Prim.Native.Nat.{ℕ, zero, suc, min, _+_, _<_, _≤_}
+use native.Mathlib.Nat.{not-suc-le-zero}
+use native.Mathlib.Numerals.{add-one}
+use native.Mathlib.Decide.{decLt}
+use native.Mathlib.Omega.{arith}
+use lib.Dec.{leb, leb→le}
+use lib.IntN.{ℤ, pos, negsuc}
+use lib.Signed.{_≤ℤ_, leZ-yes}
+use lib.ListN.{length, getD, drop, length-append, List·getD-append, drop-of-length-le}
+use lib.Seq.{drop-cons, getD-at}
+use Rattle.whole.specs.Lists.{_∈_, at-in}
+use Rattle.whole.specs.Tells.{Tells}
+use Rattle.words.specs.Layout.{entryAt, entryOffset, entryWords, fullNode}
+use Rattle.words.specs.Words.{natOf, rowsAt}
+use Rattle.words.specs.WordLaws.{rowsAt-in-part}
+use Rattle.node.specs.Entry.{Entry, firstOf, countWord, IsCount, countOf, entriesOf}
+
+-- ---- f 0, f 1, .. as many as n
+module _ {A : Type 0} (f : ℕ → A) where
+  pub length-firstOf : (n : ℕ) → length (firstOf f n) ≡ n
+  unfolding firstOf
+  length-firstOf zero = refl
+  length-firstOf (suc n) = simp length-append (omega (arith, length-firstOf n))
+
+  pub getD-firstOf : (n k : ℕ) (d : A) → k < n → getD (firstOf f n) k d ≡ f k
+  unfolding firstOf
+  getD-firstOf zero k d h = absurd (not-suc-le-zero h)
+  getD-firstOf (suc n) k d h = by (λ l. getD-firstOf n k d l) (decLt k n)
+    where
+      by : (k < n → getD (firstOf f n) k d ≡ f k) → Dec (k < n) → getD (firstOf f n ++ f n ∷ []) k d ≡ f k
+      by below (yes l) = List·getD-append (firstOf f n) (f n ∷ []) d k (omega (arith, length-firstOf n)) ∙ below l
+      by below (no l) = let e : k ≡ n = omega arith in rw e (getD-at (firstOf f n) (f n) [] d n (length-firstOf n))
+
+-- ---- the count
+pub count-fits : (node : List ℤ) → countOf node ≤ fullNode
+unfolding countOf
+count-fits node = omega arith
+
+-- a count that is in range is the word itself
+pub count-is : (node : List ℤ) → IsCount (countWord node) → countWord node ≡ pos (countOf node)
+unfolding countOf natOf
+count-is node h = same (countWord node) h
+  where
+    same : (z : ℤ) → IsCount z → z ≡ pos (min (natOf z) fullNode)
+    same (pos n) h = ap pos (omega (arith, leb→le n fullNode (h .to .le)))
+    same (negsuc n) h = absurd (h .from .le)
+
+-- a word that is not negative is a count where it is no more than a node has room for
+pub counted : (z : ℤ) → pos 0 ≤ℤ z → Tells (leb (natOf z) fullNode) (IsCount z)
+unfolding natOf
+counted (pos n) h = record { sure = λ t. record { from = h; to = leZ-yes t }; seen = λ k. k .to .le }
+counted (negsuc n) h = absurd (h .le)
+
+-- ---- the entries
+module _ (node : List ℤ) where
+  pub length-entriesOf : length (entriesOf node) ≡ countOf node
+  unfolding entriesOf
+  length-entriesOf = length-firstOf (entryAt node) (countOf node)
+
+  -- none is left from the count on
+  pub entries-end : drop (countOf node) (entriesOf node) ≡ []
+  entries-end = drop-of-length-le (entriesOf node) {i = countOf node} (omega (arith, length-entriesOf))
+
+  module _ (k : ℕ) (low : k < countOf node) where
+    pub entry-is : getD (entriesOf node) k [] ≡ entryAt node k
+    unfolding entriesOf
+    entry-is = getD-firstOf (entryAt node) (countOf node) k [] low
+
+    pub entry-in : entryAt node k ∈ entriesOf node
+    entry-in = rw entry-is at (at-in (entriesOf node) k [] (omega (arith, length-entriesOf)))
+
+    pub entries-from : drop k (entriesOf node) ≡ entryAt node k ∷ drop (suc k) (entriesOf node)
+    entries-from = drop-cons (entriesOf node) k [] (omega (arith, length-entriesOf)) ∙ rw entry-is
+
+    pub entries-next : drop k (entriesOf node) ≡ entryAt node k ∷ drop (k + 1) (entriesOf node)
+    entries-next = rw add-one entries-from
+
+-- ---- an entry's words, by their place in the node
+pub entry-rows : (node : List ℤ) (k : ℕ) → rowsAt (entryAt node k) 1 ≡ rowsAt node (entryOffset k + 1)
+unfolding entryAt
+entry-rows node k = rowsAt-in-part node (entryOffset k) entryWords 1 (omega arith)
