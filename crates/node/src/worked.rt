@@ -51,3 +51,38 @@ fn reading(node: &[i32], k: usize, leaf: bool, axis: usize, column: usize, stamp
     let b = bounds(node, k, leaf);
     column_at(b[axis], column, stamp)
 }
+
+// The outermost of all entries in a column at the stamp, 0 where there is none: one pass over them.
+fn extreme(node: &[i32], leaf: bool, axis: usize, column: usize, stamp: i32) -> i64
+    requires { ⌜ (axis < 2) × (column < 4) × (IsMinute stamp) ⌝ }
+    ensures { λ r. ⌜ (r ≡ extremeOf leaf axis column stamp (entriesOf (now (node .entry)))) × (Within (2 ^ 42) r) ⌝ }
+{
+    let n = count(node);
+    if n == 0 {
+        return 0;
+    }
+    let mut found = reading(node, 0, leaf, axis, column, stamp);
+    let mut k = 1;
+    while k < n {
+        found = outer(column, found, reading(node, k, leaf, axis, column, stamp));
+        k += 1;
+    }
+    found
+}
+
+// The greatest expiry of all entries, 0 where there is none.
+pub fn latest(node: &[i32], leaf: bool) -> i32
+    ensures { λ r. ⌜ r ≡ latestOf leaf (entriesOf (now (node .entry))) ⌝ }
+{
+    let n = count(node);
+    if n == 0 {
+        return 0;
+    }
+    let mut found = until(node, 0, leaf);
+    let mut k = 1;
+    while k < n {
+        found = later(found, until(node, k, leaf));
+        k += 1;
+    }
+    found
+}
