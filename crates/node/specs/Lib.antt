@@ -1,3 +1,4 @@
 pub mod Entry
 pub mod EntryLaws
 pub mod WorkedOut
+pub mod Pass

@@ -18,14 +18,17 @@ lesser a b = cond (ltZ b a) b a
 unfoldable pub greater : ℤ → ℤ → ℤ
 greater a b = cond (ltZ a b) b a
 
--- the least and the greatest of z and some more numbers
-unfoldable pub leastOf : ℤ → List ℤ → ℤ
-leastOf z [] = z
-leastOf z (y ∷ ys) = leastOf (lesser z y) ys
+-- of z and some more numbers that which is left where `pick` picks one of each two
+unfoldable pub picked : (ℤ → ℤ → ℤ) → ℤ → List ℤ → ℤ
+picked pick z [] = z
+picked pick z (y ∷ ys) = picked pick (pick z y) ys
 
-unfoldable pub greatestOf : ℤ → List ℤ → ℤ
-greatestOf z [] = z
-greatestOf z (y ∷ ys) = greatestOf (greater z y) ys
+-- the least and the greatest of z and some more numbers
+abbrev pub leastOf : ℤ → List ℤ → ℤ
+leastOf = picked lesser
+
+abbrev pub greatestOf : ℤ → List ℤ → ℤ
+greatestOf = picked greater
 
 -- of the rows r and rs: velocities the least low and the greatest high one;
 -- edges the least and the greatest at the stamp, kept at minute 0

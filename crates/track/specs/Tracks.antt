@@ -11,7 +11,7 @@ use Rattle.track.specs.Numbers.{kept}
 use Rattle.track.specs.Report.{keptCell}
 use Rattle.track.specs.Query.{queryFrom, windowFrom}
 use Rattle.track.specs.Meets.{Row, CellMeets, cellBounds, span}
-use Rattle.track.specs.Hull.{hull, lowAt, highAt, leastOf, greatestOf, lesser, greater}
+use Rattle.track.specs.Hull.{hull, lowAt, highAt, picked, lesser, greater}
 use Rattle.track.specs.Cut.{cutTo, livesIn}
 use Rattle.track.specs.Decides.{meetsIn, meetingOf, alongTo, meets-law}
 use Rattle.track.specs.declared.cell.Cell.{Cell}
@@ -120,5 +120,5 @@ all-hold [] t = tt
 all-hold (t ∷ ts) h = let f = both-split (test t) (allTests ts) h in (test-holds t (f .0), all-hold ts (f .1))
 
 pub tracks-hold : AllHold tracks
-unfolding tracks meetsIn meetingOf alongTo cutTo livesIn span leastOf greatestOf lesser greater
+unfolding tracks meetsIn meetingOf alongTo cutTo livesIn span picked lesser greater
 tracks-hold = all-hold tracks tt

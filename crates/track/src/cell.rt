@@ -1,12 +1,14 @@
 use crate::minute::Minute;
 use crate::minute::is_minute;
 use crate::range::is_identifier;
+use crate::range::is_kept;
 use crate::range::is_position;
 use crate::range::is_velocity;
 use crate::refusal::Refusal;
 ghost use mathlib.Core.Path.{_≡_};
 ghost use Rattle.whole.specs.Tells.{Tells};
 ghost use Rattle.track.specs.Numbers.{IsPosition, IsVelocity, IsMinute, kept};
+ghost use Rattle.track.specs.Small.{CellInRange};
 ghost use Rattle.track.specs.Report.{ReportInRange, Reports};
 
 // A storm cell, kept at minute 0; its fields stand in the order of a sheet's record.
@@ -54,6 +56,28 @@ fn report_in_range(id: i32, x: i32, y: i32, vx: i32, vy: i32, minute: i32, expir
         return false;
     }
     is_minute(expiry)
+}
+
+// Whether a cell that is kept has the ranges of one.
+pub fn cell_in_range(c: Cell) -> bool
+    ensures { λ r. ⌜ Tells r (CellInRange c) ⌝ }
+{
+    if !is_identifier(c.id) {
+        return false;
+    }
+    if !is_kept(c.x) {
+        return false;
+    }
+    if !is_velocity(c.vx) {
+        return false;
+    }
+    if !is_kept(c.y) {
+        return false;
+    }
+    if !is_velocity(c.vy) {
+        return false;
+    }
+    is_minute(c.expiry.at)
 }
 
 impl Cell {

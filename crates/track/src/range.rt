@@ -2,7 +2,7 @@ ghost use Rattle.whole.specs.Tells.{Tells};
 ghost use lib.IntN.{pos, natAbs};
 ghost use lib.Signed.{_≤ℤ_};
 ghost use Rattle.whole.specs.Within.{Within};
-ghost use Rattle.track.specs.Numbers.{IsIdentifier, IsPosition, IsVelocity};
+ghost use Rattle.track.specs.Numbers.{IsIdentifier, IsPosition, IsVelocity, IsKept};
 
 // Whether z lies within the bound either side of 0.
 fn within(z: i32, bound: i32) -> bool
@@ -31,4 +31,10 @@ pub fn is_velocity(v: i32) -> bool
     ensures { λ r. ⌜ Tells r (IsVelocity v) ⌝ }
 {
     within(v, 512)
+}
+
+pub fn is_kept(z: i32) -> bool
+    ensures { λ r. ⌜ Tells r (IsKept z) ⌝ }
+{
+    within(z, 837280)
 }
