@@ -2,5 +2,6 @@ pub mod Header
 pub mod Tree
 pub mod Sound
 pub mod Reach
+pub mod ScanParts
 pub mod Scan
 pub mod SoundBy

@@ -5,10 +5,10 @@ use mathlib.Core.List.{List, [], _∷_, _++_, map, flatMap, List·Memᴰ·head, 
 use Prim.Native.Nat.{ℕ, zero, suc, _+_, _≤_, _<_}
 use native.Mathlib.Decide.{ℕ-discrete}
 use native.Mathlib.Omega.{arith}
-use lib.Dec.{eqb, ltb→lt}
+use lib.Dec.{eqb}
 use lib.IntN.{ℤ, pos}
 use lib.ListN.{length, getD, set, take, length-map}
-use lib.Signed.{_≤ℤ_, _<ℤ_, leZ-yes}
+use lib.Signed.{_≤ℤ_, leZ-yes}
 use Rattle.whole.specs.Lists.{_∈_, NoRepeat, no-repeat-none, no-repeat-cons, no-repeat-head, no-repeat-tail}
 use Rattle.whole.specs.Order.{≤ℤ-trans}
 use Rattle.whole.specs.Times.{times, once-if, times-in, in-times, no-repeat-times, times-no-repeat}
@@ -22,6 +22,7 @@ use Rattle.table.specs.Header.{capacityWord, capacity, clock, rootWord, 
 use Rattle.table.specs.Tree.{Nodes, leavesOf, nodesOf, EntrySound, TreeSound}
 use Rattle.table.specs.Reach.{flat-in}
 use Rattle.table.specs.Sound.{reached, held, identifier, Sound}
+use Rattle.table.specs.ScanParts.{node-below}
 use Rattle.table.specs.Scan.{leavesIn, nodesIn, SoundIn, leaves-in, nodes-in, sound-in, in-sound, keyOf, Passes, Leaves, mark-put}
 
 -- ---- what the header tells
@@ -40,12 +41,6 @@ abbrev pub Counted : List ℤ → ℕ → Type 0
 Counted w j = IsCount (countWord (nodeAt w j))
 
 -- ---- what is reached is in range
-node-below : {cells : ℕ} {z : ℤ} → IsNode cells z → natOf z < nodesFor cells
-node-below {cells} {z} n = below (rw (← pos-natOf z (n .from)) at (n .to))
-  where
-    below : pos (natOf z) <ℤ pos (nodesFor cells) → natOf z < nodesFor cells
-    below h = ltb→lt (natOf z) (nodesFor cells) (h .lt)
-
 module _ (N : Nodes) (cells : ℕ) (clock : ℤ) where
   pub nodes-below : (h : ℕ) (es : List Entry) → SoundIn N cells clock h es → (j : ℕ) → j ∈ nodesIn N h es → j < nodesFor cells
   unfolding SoundIn nodesIn

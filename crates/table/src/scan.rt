@@ -1,5 +1,92 @@
+// The soundness test's pass over the tree, from a node down.
+use node::entry::child_word;
+use node::entry::count;
+use node::entry::stamp;
+use track::minute::is_minute;
+use words::NODE_WORDS;
+use words::node_start;
+use words::place;
+ghost use mathlib.Core.Path.{_≡_};
+ghost use Prim.Native.Nat.{ℕ, _+_, _*_, _/_, _≤_, _<_};
+ghost use lib.IntN.{pos};
+ghost use lib.ListN.{length};
+ghost use lib.Signed.{_≤ℤ_};
+ghost use Rattle.whole.specs.Tells.{Tells};
+ghost use Rattle.whole.specs.Lists.{_∈_};
+ghost use Rattle.words.specs.Layout.{InTable, nodeAt, entryAt, fullNode};
+ghost use Rattle.words.specs.Words.{natOf};
+ghost use Rattle.node.specs.Entry.{Entry, childWord, childOf, stampOf, entriesOf};
+ghost use Rattle.track.specs.Numbers.{IsMinute};
+ghost use Rattle.table.specs.Header.{IsNode, nodesFor, wordsFor, entriesAt};
+ghost use Rattle.table.specs.ScanParts.{ChildSound, NoneAfter, StampSound};
+
 // What a pass over some entries comes to: so many identifiers gathered, or something that is not sound.
 pub enum Scan {
     Passed(usize),
     Bad,
+}
+
+// The words of node i.
+pub fn node_at(t: &[i32], i: usize) -> &[i32]
+    requires { ⌜ InTable (now t) i ⌝ }
+    ensures { λ r. ⌜ now r ≡ nodeAt (now (t .entry)) i ⌝ }
+{
+    let a = node_start(i);
+    let e = a + NODE_WORDS;
+    &t[a..e]
+}
+
+// Whether z is the number of a node in a table of so many cells.
+pub fn is_node(cells: usize, z: i32) -> bool
+    requires { ⌜ cells ≤ 65536 ⌝ }
+    ensures { λ r. ⌜ Tells r (IsNode cells z) ⌝ }
+{
+    if z < 0 {
+        return false;
+    }
+    place(z) < cells / 2 + 1
+}
+
+// Whether entry k's child is a node of the table that is filled.
+fn child_sound(t: &[i32], cells: usize, n: &[i32], k: usize) -> bool
+    requires { ⌜ (cells ≤ 65536) × (wordsFor cells ≤ length (now t)) × (k < fullNode) ⌝ }
+    ensures { λ r. ⌜ Tells r (ChildSound (entriesAt (now (t .entry))) cells (entryAt (now (n .entry)) k)) ⌝ }
+{
+    let z = child_word(n, k);
+    if !is_node(cells, z) {
+        return false;
+    }
+    3 <= count(node_at(t, place(z)))
+}
+
+// Whether no stamp of the node's entries is after `last`.
+fn none_after(n: &[i32], last: i32) -> bool
+    ensures { λ r. ⌜ Tells r (NoneAfter (entriesOf (now (n .entry))) last) ⌝ }
+{
+    let mut k = 0;
+    while k < count(n) {
+        if last < stamp(n, k) {
+            return false;
+        }
+        k += 1;
+    }
+    true
+}
+
+// Whether entry k's stamp is a minute, not after the clock and not before any stamp in the child, which has `below` levels beneath it.
+fn stamp_sound(n: &[i32], k: usize, child: &[i32], below: usize, clock: i32) -> bool
+    requires { ⌜ k < fullNode ⌝ }
+    ensures { λ r. ⌜ Tells r (StampSound below clock (entryAt (now (n .entry)) k) (entriesOf (now (child .entry)))) ⌝ }
+{
+    let s = stamp(n, k);
+    if !is_minute(s) {
+        return false;
+    }
+    if clock < s {
+        return false;
+    }
+    if below == 0 {
+        return true;
+    }
+    none_after(child, s)
 }
