@@ -2,3 +2,4 @@ pub mod Header
 pub mod Tree
 pub mod Sound
 pub mod Reach
+pub mod Covers
