@@ -10,7 +10,7 @@ use Rattle.whole.specs.Difference.{all5, difs}
 use Rattle.whole.specs.Lists.{_∈_}
 use Rattle.whole.specs.Order.{ltZ-true, ltZ-false, <ℤ→≤ℤ, ≤ℤ-trans, +ℤ-mono, *ℤ-mono, gap-of}
 use Rattle.track.specs.Meets.{Instant, Row, low, high, lowVelocity, highVelocity, span, Touches}
-use Rattle.track.specs.Hull.{lowAt, highAt, lesser, greater, leastOf, greatestOf, hull}
+use Rattle.track.specs.Hull.{lowAt, highAt, lesser, greater, picked, leastOf, greatestOf, hull}
 use Rattle.track.specs.declared.query.Edges.{Edges}
 use Rattle.track.specs.declared.query.Query.{Query}
 
@@ -43,7 +43,7 @@ one-of {x} {m} {z} {y} {ys} c h = by c (List·Memᴰ·cases-cons h)
 -- ---- the least and the greatest of several
 -- the least is below each of them
 pub least-below : (z : ℤ) (ys : List ℤ) {x : ℤ} → x ∈ z ∷ ys → leastOf z ys ≤ℤ x
-unfolding leastOf
+unfolding picked
 least-below z [] m = rw (List·Memᴰ·eq-of-singleton m) (≤ℤ-refl z)
 least-below z (y ∷ ys) {x} m = by (λ x. least-below (lesser z y) ys {x = x}) (List·Memᴰ·cases-cons m)
   where
@@ -54,13 +54,13 @@ least-below z (y ∷ ys) {x} m = by (λ x. least-below (lesser z y) ys {x = x}) 
 
 -- and is one of them
 pub least-in : (z : ℤ) (ys : List ℤ) → leastOf z ys ∈ z ∷ ys
-unfolding leastOf
+unfolding picked
 least-in z [] = List·Memᴰ·head refl
 least-in z (y ∷ ys) = one-of (lesser-law z y .2) (least-in (lesser z y) ys)
 
 -- the greatest is above each of them
 pub greatest-above : (z : ℤ) (ys : List ℤ) {x : ℤ} → x ∈ z ∷ ys → x ≤ℤ greatestOf z ys
-unfolding greatestOf
+unfolding picked
 greatest-above z [] m = rw (List·Memᴰ·eq-of-singleton m) (≤ℤ-refl z)
 greatest-above z (y ∷ ys) {x} m = by (λ x. greatest-above (greater z y) ys {x = x}) (List·Memᴰ·cases-cons m)
   where
@@ -71,7 +71,7 @@ greatest-above z (y ∷ ys) {x} m = by (λ x. greatest-above (greater z y) ys {x
 
 -- and is one of them
 pub greatest-in : (z : ℤ) (ys : List ℤ) → greatestOf z ys ∈ z ∷ ys
-unfolding greatestOf
+unfolding picked
 greatest-in z [] = List·Memᴰ·head refl
 greatest-in z (y ∷ ys) = one-of (greater-law z y .2) (greatest-in (greater z y) ys)
 

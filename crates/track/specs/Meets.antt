@@ -1,5 +1,6 @@
 -- When a track meets a query: at one instant, on both axes, within the query's times and the life.
 -- Every comparison is multiplied through, so that it is one of whole numbers.
+use mathlib.Core.Path.{_≡_}
 use mathlib.Core.Bool.{cond}
 use mathlib.Core.List.{List, [], _∷_}
 use lib.IntN.{ℤ, pos, _+ℤ_, _-ℤ_, _*ℤ_}
@@ -70,6 +71,10 @@ pub record Meets (b : Bounds) (expiry : ℤ) (k : Query) : Type 0 where
   pub in-life : InLife expiry at
   pub on-x : Touches k (k .x) (getD b 0 []) at
   pub on-y : Touches k (k .y) (getD b 1 []) at
+
+-- and does so at the instant t
+abbrev pub MeetsAt : Bounds → ℤ → Query → Instant → Type 0
+MeetsAt b expiry k t = (m : Meets b expiry k) × (m .at ≡ t)
 
 -- a cell is a point: on each axis one edge and one velocity
 abbrev pub cellBounds : Cell → Bounds
