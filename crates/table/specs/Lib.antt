@@ -1,6 +1,7 @@
 pub mod Header
 pub mod Tree
 pub mod Sound
+pub mod HeaderLaws
 pub mod Reach
 pub mod Covers
 pub mod ScanParts

@@ -123,9 +123,9 @@ inner-leaves N h e es marks keys m lt z m₁ marks₁ keys₁ l m′ marks′ ke
   more = omega (arith, k .more, l .more, leaves-length N h e es);
   marked = λ j. omega (arith, k .marked j, l .marked j, nodes-times N h e es j, mark-put marks (childOf e) j lt z);
   gathered =
-    k .gathered ∙
-    rw (l .gathered, leaves-cons N h e es, map-append)
-    (append-assoc (take m keys) (map keyOf (leavesIn N h (N (childOf e)))) (map keyOf (leavesIn N (suc h) es)));
+      k .gathered ∙
+      rw (l .gathered, leaves-cons N h e es, map-append)
+      (append-assoc (take m keys) (map keyOf (leavesIn N h (N (childOf e)))) (map keyOf (leavesIn N (suc h) es)));
 }
 
 -- ---- the ways through the code
@@ -264,7 +264,6 @@ module _ {N : Nodes} {Counted : ℕ → Type 0} {cells : ℕ} {clock : ℤ} wher
         room = omega (arith, q .room, leaves-length N h e es, l .more);
       }
 
-
   -- in the code's words: the height is not 0, and the child's is one less
   pub way-entry-bad : (h : ℕ) (d : Entry) (es ds : List Entry) (marks keys : List ℕ) (m : ℕ) → (h ≡ 0 → ⊥) → es ≡ d ∷ ds → (EntrySound N cells clock (h - 1) d → ⊥)
       → Outcome N Counted cells clock h es marks keys m Bad marks keys
@@ -303,7 +302,7 @@ module _ {N : Nodes} {Counted : ℕ → Type 0} {cells : ℕ} {clock : ℤ} wher
             marks-kept = q .marks-kept ∙ o .marks-kept ∙ simp length-set;
             keys-kept = q .keys-kept ∙ o .keys-kept;
             pass = λ m′ f.
-              let k = q .pass m′ f in
-              (inner-more h d ds marks keys m lt new m₁ marks₁ keys₁ (p .1) s c (p .0) (k .0), inner-leaves N h d ds marks keys m lt new m₁ marks₁ keys₁ (p .1) m′ marks′ keys′ (k .1));
+                let k = q .pass m′ f in
+                (inner-more h d ds marks keys m lt new m₁ marks₁ keys₁ (p .1) s c (p .0) (k .0), inner-leaves N h d ds marks keys m lt new m₁ marks₁ keys₁ (p .1) m′ marks′ keys′ (k .1));
             fail = λ f k. q .fail f (inner-rest h d ds marks keys m lt new m₁ marks₁ keys₁ (p .1) k);
           }

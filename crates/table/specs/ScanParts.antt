@@ -90,8 +90,8 @@ none-more node k last s b lt e h = record {
 pub none-all : (node : List ℤ) (k : ℕ) (last : ℤ) → NoneBefore (entriesOf node) k last → countOf node ≤ k → NoneAfter (entriesOf node) last
 none-all node k last b le = record {
   none = λ e i.
-    let r = in-at [] i in
-    subst (λ (f : Entry). stampOf f ≤ℤ last) (r .2) (b .none (r .0) (omega (arith, r .1, length-entriesOf node)));
+      let r = in-at [] i in
+      subst (λ (f : Entry). stampOf f ≤ℤ last) (r .2) (b .none (r .0) (omega (arith, r .1, length-entriesOf node)));
 }
 
 pub one-after : (node : List ℤ) (k : ℕ) (last s : ℤ) → k < countOf node → s ≡ stampOf (entryAt node k) → last <ℤ s → NoneAfter (entriesOf node) last → ⊥

@@ -1,2 +1,3 @@
 // A table of words: what is sound, and a fresh one.
+pub mod header;
 pub mod scan;

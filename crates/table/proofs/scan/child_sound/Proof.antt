@@ -37,7 +37,7 @@ place-requires : tie.Need-place-requires
 place-requires c κs = search needs
 
 node-at-requires : tie.Need-node-at-requires
-node-at-requires c κs = let s = c .before .before .before .before in node-in-table _ _ _ _ (s .pre .1) (is-in (c .before)) (child-is c)
+node-at-requires c κs = let s = c .before .before .before .before in node-in-table (s .args .t .now) _ _ _ (s .pre .1) (is-in (c .before)) (child-is c)
 
 count-requires : tie.Need-count-requires
 count-requires c κs = search needs
