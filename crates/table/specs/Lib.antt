@@ -3,3 +3,4 @@ pub mod Tree
 pub mod Sound
 pub mod Reach
 pub mod Covers
+pub mod EdgesLaw
