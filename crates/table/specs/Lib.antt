@@ -4,6 +4,7 @@ pub mod Sound
 pub mod HeaderLaws
 pub mod Reach
 pub mod Covers
+pub mod EdgesLaw
 pub mod ScanParts
 pub mod Scan
 pub mod SoundBy

@@ -9,3 +9,4 @@ pub mod Small
 pub mod Hull
 pub mod Tracks
 pub mod HullLaws
+pub mod HullRange
