@@ -4,6 +4,8 @@ use mathlib.Core.Logic.{_⊎_, inl, inr, ⊎-elim}
 use mathlib.Core.List.{List, [], _∷_, _++_, map, flatMap, List·Memᴰ·head, List·Memᴰ·tail, List·Memᴰ·cases-cons, List·Memᴰ·append-cases, List·Memᴰ·not-nil, Memᴰ·map, Memᴰ·of-map}
 use Prim.Native.Nat.{ℕ, zero, suc, _+_, _≤_, _<_}
 use native.Mathlib.Decide.{ℕ-discrete}
+use native.Mathlib.Nat.{not-suc-le-zero}
+use borrow.Author.Count.{below-more}
 use native.Mathlib.Omega.{arith}
 use lib.Dec.{eqb}
 use lib.IntN.{ℤ, pos}
@@ -124,8 +126,21 @@ module _ (w : List ℤ) where
       }
 
   -- ---- what a pass leaves to test
-  pub record RestFree (marks : List ℕ) : Type 0 where
-    pub free : (i : ℕ) → i < nodesFor (capacity w) → getD marks i 0 ≡ 0 → countWord (nodeAt w i) ≡ pos 0
+  -- a node without a mark is free
+  abbrev pub FreeUnless : ℕ → ℕ → Type 0
+  FreeUnless mark i = mark ≡ 0 → countWord (nodeAt w i) ≡ pos 0
+
+  pub record FreeTo (marks : List ℕ) (n : ℕ) : Type 0 where
+    pub free : (i : ℕ) → i < n → FreeUnless (getD marks i 0) i
+
+  abbrev pub RestFree : List ℕ → Type 0
+  RestFree marks = FreeTo marks (nodesFor (capacity w))
+
+  pub free-none : (marks : List ℕ) → FreeTo marks 0
+  free-none marks = record { free = λ i h. absurd (not-suc-le-zero h) }
+
+  pub free-more : (marks : List ℕ) (n : ℕ) → FreeTo marks n → FreeUnless (getD marks n 0) n → FreeTo marks (n + 1)
+  free-more marks n f g = record { free = below-more (λ (i : ℕ). FreeUnless (getD marks i 0) i) n (f .free) g }
 
   module _ (marks : List ℕ) (k : RootMarked marks) (keys : List ℕ) (m : ℕ) (marks′ keys′ : List ℕ)
       (p : Passes (entriesAt w) (Counted w) (capacity w) (clock w) (height w) (entriesAt w (root w)) marks 0)

@@ -5,14 +5,16 @@ use native.Mathlib.Nat.{div-le-self, mul-le-mul, lt-of-le-of-lt, le-trans}
 use native.Mathlib.Omega.{arith}
 use mathlib.Core.List.{List}
 use lib.ListN.{getD}
-use lib.Dec.{T, ltb, leb, ltb→lt, leb→le, lt→ltb}
+use lib.Dec.{T, ltb, leb, eqb, ltb→lt, leb→le, lt→ltb, eqb→eq}
 use lib.IntN.{ℤ, pos, negsuc, negℤ, natAbs, _+ℤ_, _-ℤ_, _*ℤ_, +ℤ-idl}
 use lib.Signed.{_≤ℤ_, _<ℤ_, mag, natAbs-le, quotZ}
+use borrow.Author.Tests.{eq-eqb}
 use mir.Syntax.{Width, w32, w64}
 use mir.Val.{SFits, hbits, toZ, ofZ}
 use mir.ValLaws as ValLaws
 use Rattle.whole.specs.Difference.{each, all2, difs}
 use Rattle.whole.specs.Order.{≤ℤ-trans}
+use Rattle.whole.specs.Tells.{Tells}
 
 -- z lies within `bound` either side of 0. A record, so that both are inferred from a fact
 pub record Within (bound : ℕ) (z : ℤ) : Type 0 where
@@ -132,6 +134,9 @@ read-at w xs i g = ValLaws.toZ-ofZ w (getD xs i (pos 0)) (record { sfits = g })
 -- `==` of two signed numbers is an equation of their bits
 pub bits-eq : (w : Width) (a b : ℤ) → SFits w a → SFits w b → ofZ w a ≡ ofZ w b → a ≡ b
 bits-eq w a b f g e = sym (ValLaws.toZ-ofZ w a f) ∙ ap (toZ w) e ∙ ValLaws.toZ-ofZ w b g
+
+pub equal-tells : (w : Width) (a b : ℤ) → SFits w a → SFits w b → Tells (eqb (ofZ w a) (ofZ w b)) (a ≡ b)
+equal-tells w a b f g = record { sure = λ t. bits-eq w a b f g (eqb→eq (ofZ w a) (ofZ w b) t); seen = λ e. subst T (sym (eq-eqb (ofZ w a) (ofZ w b) (ap (ofZ w) e))) tt }
 
 -- a count, as a signed number
 pub read-nat : (w : Width) (n : ℕ) → n < 2 ^ hbits w → toZ w n ≡ pos n
