@@ -1,6 +1,6 @@
 use mathlib.Core.Path.{_≡_, ap, _∙_}
 use mathlib.Core.List.{List}
-use Prim.Native.Nat.{ℕ, _≤_, _<_, _-_}
+use Prim.Native.Nat.{ℕ, _+_, _-_, _≤_, _<_}
 use native.Mathlib.Nat.{not-suc-le-zero}
 use native.Mathlib.Omega.{arith}
 use lib.IntN.{ℤ, pos}
@@ -58,9 +58,10 @@ loop-less c = search needs
 loop-again : tie.Need-loop-again Inv-loop μ-loop
 loop-again c =
     let at = c .before .before .before .before .before in
+    let short : at .loop .j + 1 ≤ 4 = omega arith in
     let first = fits tt (any-in {w = w32} (record { sfits = c .before .before .before .wide-arg .given })) in
     let here = bits-eq w64 _ _ first (record { sfits = c .before .if12 .given }) (rw (first-is (c .before .before)) at (c .if1 .left)) in
-    (omega (arith, c .before .before .before .before .loop-test .taken), below-more _ _ (at .loop .inv .1) here)
+    (short, below-more _ _ (at .loop .inv .1) here)
 
 returns-2 : tie.Need-returns-2 Inv-loop μ-loop
 returns-2 c =
