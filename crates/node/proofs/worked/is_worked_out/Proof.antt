@@ -1,5 +1,4 @@
-use mathlib.Core.Path.{_≡_, refl, ap, _∙_}
-use native.Mathlib.Omega.{arith}
+use mathlib.Core.Path.{_≡_, _∙_}
 use mathlib.Core.Bool.{false}
 use Prim.Native.Nat.{ℕ}
 use lib.Dec.{eqb, eqb→eq, eqb-refl}
@@ -8,12 +7,11 @@ use mir.Syntax.{Width, w32}
 use mir.Val.{SFits, toZ, ofZ}
 use borrow.Author.Needs.{needs}
 use Rattle.whole.specs.Tells.{Tells, tells-false, tells-as, passed-not, failed-not}
-use Rattle.whole.specs.Within.{back, bits-eq}
+use Rattle.whole.specs.Within.{bits-eq}
 use Rattle.words.specs.Layout.{entryAt}
 use Rattle.words.specs.WordLaws.{word-back}
-use Rattle.track.specs.Numbers.{IsMinute}
 use Rattle.node.specs.Entry.{Entry, entriesOf, stampOf, untilOf}
-use Rattle.node.specs.WorkedOut.{rowOf, hullOn, latestOf, WorkedOut}
+use Rattle.node.specs.WorkedOut.{rowOf, hullOn, latestOf}
 use Rattle.node.proofs.worked.is_worked_out.Statement.{statement}
 use Rattle.node.proofs.worked.is_worked_out.Tie as tie
 

@@ -2,7 +2,7 @@ use Prim.Native.Nat.{_-_}
 use mathlib.Core.Path.{sym, _∙_}
 use native.Mathlib.Omega.{arith}
 use mir.Syntax.{w32}
-use mir.Val.{toZ, ofZ}
+use mir.Val.{toZ}
 use borrow.Author.Needs.{needs}
 use Rattle.words.specs.WordLaws.{word-back}
 use Rattle.track.specs.Hull.{greater}
