@@ -4,3 +4,5 @@ pub mod Sound
 pub mod Reach
 pub mod Covers
 pub mod EdgesLaw
+pub mod Counts
+pub mod Frame
