@@ -1,5 +1,5 @@
 -- The pruning law: where a cell meets a query that does not start before the clock, every entry above the cell meets it at the same instant.
-use mathlib.Core.Path.{_≡_, refl}
+use mathlib.Core.Path.{refl}
 use mathlib.Core.Bool.{Bool, true, false}
 use mathlib.Core.List.{List, [], _∷_, List·Memᴰ·not-nil, Memᴰ·map}
 use Prim.Native.Nat.{ℕ, zero, suc}

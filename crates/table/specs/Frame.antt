@@ -68,7 +68,7 @@ module _ (N N′ : Nodes) where
 
 -- ---- a later clock
 module _ (N : Nodes) (cells : ℕ) {clock clock′ : ℤ} (later : clock ≤ℤ clock′) where
-  entry-later : (h : ℕ) {e : Entry} → EntrySound N cells clock h e → EntrySound N cells clock′ h e
+  pub entry-later : (h : ℕ) {e : Entry} → EntrySound N cells clock h e → EntrySound N cells clock′ h e
   entry-later h s = record {
     child-in = s .child-in;
     filled = s .filled;
