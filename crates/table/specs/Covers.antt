@@ -61,6 +61,7 @@ module _ (N : Nodes) (cells : ℕ) (clock : ℤ) (k : Query) (due : clock ≤ℤ
       let u = tree (g .0) (g .1) in
       entry-covers (s .worked-out) (g .1) (≤ℤ-trans (s .stamped) due) (below-covers h (u .0) (u .1) (g .2) met)
 
+  -- the same of an entry of a sound inner node
   pub covers : (h i : ℕ) {e f : Entry} {t : Instant} → TreeSound N cells clock (suc h) i → e ∈ N i → f ∈ leavesOf N h (childOf e)
       → MeetsAt (boundsOf true f) (untilOf true f) k t → MeetsAt (boundsOf false e) (untilOf false e) k t
   unfolding TreeSound

@@ -28,6 +28,7 @@ module _ (N N′ : Nodes) where
   agree-child : (h i : ℕ) {e : Entry} → Agree N N′ (suc h) i → e ∈ N i → N′ (childOf e) ≡ N (childOf e)
   agree-child h i {e} same m = same (childOf e) (node-up N h i m (node-self N h (childOf e)))
 
+  -- the same leaf entries, the same nodes, and sound where the other is
   pub leaves-frame : (h i : ℕ) → Agree N N′ h i → leavesOf N′ h i ≡ leavesOf N h i
   unfolding leavesOf
   leaves-frame zero i same = same i (node-self N zero i)
