@@ -25,7 +25,7 @@ use Rattle.table.specs.Tree.{Nodes, leavesOf, nodesOf, EntrySound, TreeS
 use Rattle.table.specs.Reach.{flat-in}
 use Rattle.table.specs.Sound.{reached, held, identifier, Sound}
 use Rattle.table.specs.ScanParts.{node-below}
-use Rattle.table.specs.Scan.{leavesIn, nodesIn, SoundIn, leaves-in, nodes-in, sound-in, in-sound, keyOf, Passes, Leaves, mark-put}
+use Rattle.table.specs.Scan.{leavesIn, nodesIn, SoundIn, leaves-in, nodes-in, sound-in, in-sound, keyOf, Counted, Passes, Leaves}
 
 -- ---- what the header tells
 pub record HeaderSound (w : List ℤ) : Type 0 where
@@ -38,9 +38,6 @@ pub record HeaderSound (w : List ℤ) : Type 0 where
 pub record RootSound (w : List ℤ) : Type 0 where
   pub counted : IsCount (countWord (nodeAt w (root w)))
   pub filled : 0 < height w → 2 ≤ length (entriesAt w (root w))
-
-abbrev pub Counted : List ℤ → ℕ → Type 0
-Counted w j = IsCount (countWord (nodeAt w j))
 
 -- ---- what is reached is in range
 module _ (N : Nodes) (cells : ℕ) (clock : ℤ) where
