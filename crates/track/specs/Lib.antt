@@ -6,5 +6,7 @@ pub mod Meets
 pub mod Cut
 pub mod Decides
 pub mod Small
+pub mod Answer
+pub mod AnswerLaws
 pub mod Hull
 pub mod Tracks

@@ -1,7 +1,10 @@
 use crate::cell::Cell;
+use crate::cell::Reported;
 use crate::interval::Interval;
 use crate::minute::Minute;
+use crate::query::Asked;
 use crate::query::Query;
+use crate::refusal::Refusal;
 use whole::wide;
 ghost use mathlib.Core.Path.{_≡_};
 ghost use Rattle.whole.specs.Tells.{Tells};
@@ -10,6 +13,8 @@ ghost use Rattle.track.specs.Query.{QueryInRange};
 ghost use Rattle.track.specs.Meets.{span, Meets, CellMeets, cellBounds};
 ghost use Rattle.track.specs.Decides.{meetingOf};
 ghost use Rattle.track.specs.Small.{BoundsInRange, CellInRange};
+ghost use Rattle.track.specs.Refusals.{Gives};
+ghost use Rattle.track.specs.Answer.{answersTo, KeptInRange, TakenInRange};
 
 // The minutes over which the query's rectangle moves, and 1 where its start is its end.
 fn span(k: Query) -> i64
@@ -58,4 +63,21 @@ pub fn cell_meets(c: Cell, k: Query) -> bool
     ensures { λ r. ⌜ Tells r (CellMeets c k) ⌝ }
 {
     meets(cell_bounds(c), c.expiry.at, k)
+}
+
+// What is told of a report and a query on its cell: 1 for yes, 0 for no, else the first refusal's number.
+pub fn answer(reported: Reported, asked: Asked) -> i32
+    requires { ⌜ (KeptInRange reported) × (TakenInRange asked) ⌝ }
+    ensures { λ r. ⌜ Gives (answersTo reported asked) r ⌝ }
+{
+    match reported {
+        Reported::Kept(c) => match asked {
+            Asked::Taken(k) => if cell_meets(c, k) { 1 } else { 0 },
+            Asked::Refused(why) => why.number(),
+        },
+        Reported::Refused(why) => match asked {
+            Asked::Taken(_) => why.number(),
+            Asked::Refused(other) => why.first(other),
+        },
+    }
 }
