@@ -4,9 +4,12 @@ use mathlib.Core.Logic.{_⊎_, inl, inr}
 use mathlib.Core.List.{List, [], _∷_}
 use Prim.Native.Nat.{ℕ, zero, suc}
 use lib.IntN.{ℤ, pos}
-use Rattle.track.specs.Refusals.{number, firstOf, none-first, refused-not-zero, Gives}
+use lib.Signed.{_<ℤ_, clashℤ}
+use Rattle.track.specs.Refusals.{number, Reason, _when_, First, first-then, firstOf, none-first, not-zero, refused-not-zero, Gives}
+use Rattle.track.specs.Report.{reportReasons, keptCell, reportNumber, Reports}
+use Rattle.track.specs.Query.{queryReasons, askedNumber, Asks}
 use Rattle.track.specs.Meets.{CellMeets}
-use Rattle.track.specs.Answer.{answersTo, refusalOf}
+use Rattle.track.specs.Answer.{meetingReasons, meetingAnswers, answersTo, refusalOf}
 use Rattle.track.specs.declared.cell.Cell.{Cell}
 use Rattle.track.specs.declared.cell.Reported.{Reported}
 use Rattle.track.specs.declared.cell.Reported.the-variants as reported
@@ -40,3 +43,49 @@ module _ {r : Reported} {a : Asked} where
   tells-first {why} {other} e f =
       tells-refusal r a (firstOf (number why) (number other)) (ap₂ refusalOf e f)
       (λ z. refused-not-zero why (none-first (number why) (number other) z .0))
+
+-- ---- the reasons of the report and of the query joined
+zero-stable : (n : ℕ) → ((n ≡ 0 → ⊥) → ⊥) → n ≡ 0
+zero-stable zero f = refl
+zero-stable (suc n) f = absurd (f (not-zero n))
+
+in-both : {P Q : Type 0} → ((P → ⊥) → ⊥) → ((Q → ⊥) → ⊥) → (P × Q → ⊥) → ⊥
+in-both d i f = d (λ p. i (λ q. f (p, q)))
+
+module _ {id x y vx vy minute expiry : ℤ} {Backward : Type 0} {k : Query} where
+  -- a report in range is never before the first minute, so 5 is the query's alone
+  joined : {m n : ℕ} → First (reportReasons (pos 0) id x y vx vy minute expiry) m → First (queryReasons minute Backward k) n → First (meetingReasons id x y vx vy minute expiry Backward k) (firstOf m n)
+  joined (inl g) (inl h) = inl (λ both. g .0 (both .0), ap₂ firstOf (g .1) (h .1))
+  joined (inl g) (inr (i, inl h)) = inl (λ both. g .0 (both .0), ap₂ firstOf (g .1) (h .1))
+  joined (inl g) (inr (i, inr (j, inl h))) = inl (λ both. g .0 (both .0), ap₂ firstOf (g .1) (h .1))
+  joined (inl g) (inr (i, inr (j, inr h))) = inl (λ both. g .0 (both .0), ap₂ firstOf (g .1) (h .1))
+  joined (inr (d, inl g)) h = absurd (d (λ inside. clashℤ (g .0) (inside .minute-in .from)))
+  joined (inr (d, inr (e, inl g))) (inl h) = inl (λ both. h .0 (both .1), ap₂ firstOf (g .1) (h .1))
+  joined (inr (d, inr (e, inl g))) (inr (i, inl h)) = inr (in-both d i, inl (h .0, ap₂ firstOf (g .1) (h .1)))
+  joined (inr (d, inr (e, inl g))) (inr (i, inr (j, inl h))) = inr (in-both d i, inr (j, inl (g .0, ap₂ firstOf (g .1) (h .1))))
+  joined (inr (d, inr (e, inl g))) (inr (i, inr (j, inr h))) = inr (in-both d i, inr (j, inl (g .0, ap₂ firstOf (g .1) (h .1))))
+  joined (inr (d, inr (e, inr g))) (inl h) = inl (λ both. h .0 (both .1), ap₂ firstOf (g .1) (h .1))
+  joined (inr (d, inr (e, inr g))) (inr (i, inl h)) = inr (in-both d i, inl (h .0, ap₂ firstOf (g .1) (h .1)))
+  joined (inr (d, inr (e, inr g))) (inr (i, inr (j, inl h))) = inr (in-both d i, inr (j, inr (g .0, inl (h .0, ap₂ firstOf (g .1) (h .1)))))
+  joined (inr (d, inr (e, inr g))) (inr (i, inr (j, inr h))) = inr (in-both d i, inr (j, inr (g .0, inr (h .0, ap₂ firstOf (g .1) (h .1)))))
+
+  -- what the answers were is what the numbers say
+  as-handed-over : {r : Reported} {a : Asked} {n : ℕ} → Reports (pos 0) id x y vx vy minute expiry r → Asks minute Backward k a → First (answersTo r a) n
+      → First (refusalOf r a when (refusalOf r a ≡ 0 → ⊥) ∷ 1 when CellMeets (keptCell id x y vx vy minute expiry) k ∷ []) n
+  as-handed-over g h (inl i) = inl i
+  as-handed-over {r} {a} {n} g h (inr i) =
+      let none = none-first (reportNumber r) (askedNumber a) (zero-stable (refusalOf r a) (i .0)) in
+      let c = g .cell (none .0) in
+      let q = h .query (none .1) in
+      inr (i .0, rw (c, q) at (i .1))
+
+  pub answered : {r : Reported} {a : Asked} {z : ℤ} → Reports (pos 0) id x y vx vy minute expiry r → Asks minute Backward k a → Gives (answersTo r a) z → Gives (meetingAnswers id x y vx vy minute expiry Backward k) z
+  answered {r} {a} g h t = record {
+    number = t .number;
+    is = t .is;
+    first =
+        first-then (meetingReasons id x y vx vy minute expiry Backward k) (1 when CellMeets (keptCell id x y vx vy minute expiry) k ∷ []) (refusalOf r a) (t .number)
+        (not-zero 3, (not-zero 4, (not-zero 5, (not-zero 6, tt))))
+        (joined (g .refusal) (h .refusal))
+        (as-handed-over g h (t .first));
+  }

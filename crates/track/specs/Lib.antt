@@ -6,6 +6,7 @@ pub mod Meets
 pub mod Cut
 pub mod Decides
 pub mod Small
+pub mod Accepted
 pub mod Answer
 pub mod AnswerLaws
 pub mod Hull

@@ -85,6 +85,16 @@ abbrev pub NoneZero : List Reason → Type 0
 NoneZero [] = Unit {0}
 NoneZero (k when P ∷ rs) = (k ≡ 0 → ⊥) × NoneZero rs
 
+-- where the number is 0 none of them holds
+abbrev pub NoneHolds : List Reason → Type 0
+NoneHolds [] = Unit {0}
+NoneHolds (k when P ∷ rs) = (P → ⊥) × NoneHolds rs
+
+pub none-holds : (rs : List Reason) (n : ℕ) → NoneZero rs → First rs n → n ≡ 0 → NoneHolds rs
+none-holds [] n z h e = tt
+none-holds (k when P ∷ rs) n z (inl h) e = absurd (z .0 (sym (h .1) ∙ e))
+none-holds (k when P ∷ rs) n z (inr h) e = (h .0, none-holds rs n (z .1) (h .1) e)
+
 -- where the reasons are known to give f, f stands for all of them
 pub first-then : (rs ss : List Reason) (f n : ℕ) → NoneZero rs → First rs f → First (f when (f ≡ 0 → ⊥) ∷ ss) n → First (rs ++ ss) n
 first-then [] ss f n z h (inl g) = absurd (g .0 h)

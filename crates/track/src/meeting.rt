@@ -14,7 +14,8 @@ ghost use Rattle.track.specs.Meets.{span, Meets, CellMeets, cellBounds};
 ghost use Rattle.track.specs.Decides.{meetingOf};
 ghost use Rattle.track.specs.Small.{BoundsInRange, CellInRange};
 ghost use Rattle.track.specs.Refusals.{Gives};
-ghost use Rattle.track.specs.Answer.{answersTo, KeptInRange, TakenInRange};
+ghost use Rattle.track.specs.Answer.{answersTo};
+ghost use Rattle.track.specs.Accepted.{KeptInRange, TakenInRange};
 
 // The minutes over which the query's rectangle moves, and 1 where its start is its end.
 fn span(k: Query) -> i64

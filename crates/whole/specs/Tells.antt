@@ -42,3 +42,8 @@ tells-as t f g = record { sure = λ h. f (t .sure h); seen = λ q. t .seen (g q)
 pub decided : {b : Bool} {P : Type 0} → Tells b P → Dec P
 decided {b = true} t = yes (t .sure tt)
 decided {b = false} t = no (λ p. t .seen p)
+
+-- what cannot be denied holds, where a test tells it
+pub stable : {b : Bool} {P : Type 0} → Tells b P → ((P → ⊥) → ⊥) → P
+stable {b = true} t f = t .sure tt
+stable {b = false} t f = absurd (f (λ p. t .seen p))

@@ -5,7 +5,7 @@ use native.Mathlib.Nat.{div-le-self, mul-le-mul, lt-of-le-of-lt, le-trans}
 use native.Mathlib.Omega.{arith}
 use mathlib.Core.List.{List}
 use lib.ListN.{getD}
-use lib.Dec.{T, ltb, leb, ltb→lt, leb→le, lt→ltb}
+use lib.Dec.{T, ltb, leb, ltb→lt, leb→le, lt→ltb, le→leb}
 use lib.IntN.{ℤ, pos, negsuc, negℤ, natAbs, _+ℤ_, _-ℤ_, _*ℤ_, +ℤ-idl}
 use lib.Signed.{_≤ℤ_, _<ℤ_, mag, natAbs-le, quotZ}
 use mir.Syntax.{Width, w32, w64}
@@ -13,6 +13,7 @@ use mir.Val.{SFits, hbits, toZ, ofZ}
 use mir.ValLaws as ValLaws
 use Rattle.whole.specs.Difference.{each, all2, difs}
 use Rattle.whole.specs.Order.{≤ℤ-trans}
+use Rattle.whole.specs.Tells.{stable}
 
 -- z lies within `bound` either side of 0. A record, so that both are inferred from a fact
 pub record Within (bound : ℕ) (z : ℤ) : Type 0 where
@@ -87,6 +88,10 @@ from-zero {bound} h k = between (≤ℤ-trans (neg-le bound) h) k
   where
     neg-le : (bound : ℕ) → negℤ (pos bound) ≤ℤ pos 0
     neg-le bound = simp difs (omega arith)
+
+-- a range that cannot be denied holds
+pub within-stable : {bound : ℕ} {z : ℤ} → ((Within bound z → ⊥) → ⊥) → Within bound z
+within-stable {bound} {z} = stable {b = leb (natAbs z) bound} (record { sure = λ t. record { abs = leb→le (natAbs z) bound t }; seen = λ h. le→leb (natAbs z) bound (h .abs) })
 
 -- ---- what fits a width: `fits tt (mul-in h k)`
 mag-abs : (z : ℤ) → mag z ≤ natAbs z

@@ -3,7 +3,7 @@ use mir.Syntax.{w32}
 use borrow.Author.Needs.{needs, sfits-of}
 use Rattle.whole.specs.Within.{back}
 use Rattle.whole.specs.Tells.{passed, failed}
-use Rattle.track.specs.Answer.{KeptInRange, TakenInRange}
+use Rattle.track.specs.Accepted.{KeptInRange, TakenInRange}
 use Rattle.track.specs.AnswerLaws.{tells-yes, tells-no, tells-asked, tells-reported, tells-first}
 use Rattle.track.proofs.meeting.answer.Statement.{statement}
 use Rattle.track.proofs.meeting.answer.Tie as tie
