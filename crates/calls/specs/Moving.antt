@@ -1,4 +1,4 @@
--- What is told of a report's numbers and a moving query's.
+-- What is told of a report's numbers and a moving query's; `gives-fixed` says that one number only fits it.
 use mathlib.Core.List.{List}
 use lib.IntN.{ℤ}
 use lib.Signed.{_≤ℤ_}

@@ -1,9 +1,8 @@
--- What the viewer is told of a report's numbers and a window's.
+-- What the viewer is told of a report's numbers and a window's; `gives-fixed` says that one number only fits it.
 use mathlib.Core.List.{List}
-use mathlib.Core.Path.{_≡_}
 use lib.IntN.{ℤ}
 use lib.Signed.{_<ℤ_}
-use Rattle.track.specs.Refusals.{Reason, Gives, gives-fixed}
+use Rattle.track.specs.Refusals.{Reason}
 use Rattle.track.specs.Query.{windowFrom}
 use Rattle.track.specs.Answer.{meetingAnswers}
 

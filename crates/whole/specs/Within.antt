@@ -123,6 +123,10 @@ read32 t h = back (fits t h)
 pub read64 : {z : ℤ} {bound : ℕ} → T (ltb bound (2 ^ 63)) → Within bound z → toZ w64 (ofZ w64 z) ≡ z
 read64 t h = back (fits t h)
 
+-- a call's result z, and `c .call .ok` is the fact that it fits
+pub word-back : (z : ℤ) → mag z < 2 ^ hbits w32 → toZ w32 (ofZ w32 z) ≡ z
+word-back z small = back (record { sfits = small })
+
 -- `-x` in the code is 0 − x
 pub neg-read32 : {z : ℤ} {bound : ℕ} → T (ltb bound (2 ^ 31)) → Within bound z → toZ w32 (ofZ w32 (pos 0 -ℤ z)) ≡ negℤ z
 neg-read32 {z} t h = ap (λ (y : ℤ). toZ w32 (ofZ w32 y)) (+ℤ-idl (negℤ z)) ∙ read32 t (neg-in h)

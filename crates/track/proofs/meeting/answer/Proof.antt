@@ -1,7 +1,6 @@
 use mathlib.Core.Path.{_≡_, refl, subst, _∙_}
-use mir.Syntax.{w32}
-use borrow.Author.Needs.{needs, sfits-of}
-use Rattle.whole.specs.Within.{back}
+use borrow.Author.Needs.{needs}
+use Rattle.whole.specs.Within.{word-back}
 use Rattle.whole.specs.Tells.{passed, failed}
 use Rattle.track.specs.Accepted.{KeptInRange, TakenInRange}
 use Rattle.track.specs.AnswerLaws.{tells-yes, tells-no, tells-asked, tells-reported, tells-first}
@@ -51,17 +50,17 @@ returns-2 c = tells-no (c .before .before .before .before .before .before .repor
 returns-3 : tie.Need-returns-3
 returns-3 c =
     tells-asked (c .before .before .before .before .before .reported .given .1) (c .before .before .asked2 .given .1)
-    (back {w = w32} {z = c .number .result} (sfits-of (c .number .ok)) ∙ c .number .ensures)
+    (word-back (c .number .result) (c .number .ok) ∙ c .number .ensures)
 
 returns-4 : tie.Need-returns-4
 returns-4 c =
     tells-reported (c .before .before .before .before .reported2 .given .1) (c .before .enum-told .given .1)
-    (back {w = w32} {z = c .number2 .result} (sfits-of (c .number2 .ok)) ∙ c .number2 .ensures)
+    (word-back (c .number2 .result) (c .number2 .ok) ∙ c .number2 .ensures)
 
 returns-5 : tie.Need-returns-5
 returns-5 c =
     tells-first (c .before .before .before .before .before .reported2 .given .1) (c .before .before .asked3 .given .1)
-    (back {w = w32} {z = c .first .result} (sfits-of (c .first .ok)) ∙ c .first .ensures)
+    (word-back (c .first .result) (c .first .ok) ∙ c .first .ensures)
 
 pub answer-spec : {M : Type 1} → statement M
 answer-spec =

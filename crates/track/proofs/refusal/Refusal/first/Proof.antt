@@ -2,17 +2,17 @@ use mathlib.Core.Path.{_≡_, sym, ap, _∙_}
 use lib.IntN.{pos}
 use mir.Syntax.{w32}
 use mir.Val.{toZ, ofZ}
-use borrow.Author.Needs.{needs, sfits-of}
-use Rattle.whole.specs.Within.{back}
+use borrow.Author.Needs.{needs}
+use Rattle.whole.specs.Within.{word-back}
 use Rattle.track.specs.Refusals.{number, refused-not-zero, first-is-first, first-is-second}
 use Rattle.track.proofs.refusal.Refusal.first.Statement.{statement}
 use Rattle.track.proofs.refusal.Refusal.first.Tie as tie
 
 mine-is : (c : tie.After-number) → toZ w32 (ofZ w32 (c .number .result)) ≡ pos (number (c .before .args .self))
-mine-is c = back {w = w32} {z = c .number .result} (sfits-of (c .number .ok)) ∙ c .number .ensures
+mine-is c = word-back (c .number .result) (c .number .ok) ∙ c .number .ensures
 
 its-is : (c : tie.After-number2) → toZ w32 (ofZ w32 (c .number2 .result)) ≡ pos (number (c .before .before .args .other))
-its-is c = back {w = w32} {z = c .number2 .result} (sfits-of (c .number2 .ok)) ∙ c .number2 .ensures
+its-is c = word-back (c .number2 .result) (c .number2 .ok) ∙ c .number2 .ensures
 
 ruleset reads = (mine-is, its-is)
 
