@@ -39,9 +39,8 @@ pub fn meeting(b: [[i32; 4]; 2], k: Query) -> Interval
         hid: 1,
     };
     let minutes = span(k);
-    whole
-        .along(k.x, b[0], start, minutes)
-        .along(k.y, b[1], start, minutes)
+    let on_x = whole.along(k.x, b[0], start, minutes);
+    on_x.along(k.y, b[1], start, minutes)
 }
 
 // Whether what has these bounds and lives until `expiry` meets the query.
