@@ -4,7 +4,6 @@ use crate::interval::Interval;
 use crate::minute::Minute;
 use crate::query::Asked;
 use crate::query::Query;
-use crate::refusal::Refusal;
 use whole::wide;
 ghost use mathlib.Core.Path.{_≡_};
 ghost use Rattle.whole.specs.Tells.{Tells};

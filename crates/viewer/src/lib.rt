@@ -1,9 +1,7 @@
 // What the C viewer asks, on plain numbers.
 use track::cell::Cell;
-use track::cell::Reported;
 use track::meeting::answer;
 use track::minute::Minute;
-use track::query::Asked;
 use track::query::Query;
 ghost use Rattle.track.specs.Refusals.{Gives};
 ghost use Rattle.viewer.specs.Window.{windowAnswers};
