@@ -26,10 +26,11 @@ abbrev pub meetingAnswers : ℤ → ℤ → ℤ → ℤ → ℤ → ℤ → ℤ 
 meetingAnswers id x y vx vy minute expiry Backward k =
     meetingReasons id x y vx vy minute expiry Backward k ++ 1 when CellMeets (keptCell id x y vx vy minute expiry) k ∷ []
 
--- the same of a report and a query that were each answered before
+-- of a report and a query that were each answered before: the first refusal's number, 0 where neither is refused
 abbrev pub refusalOf : Reported → Asked → ℕ
 refusalOf r a = firstOf (reportNumber r) (askedNumber a)
 
+-- and what is told of the two
 abbrev pub answersTo : Reported → Asked → List Reason
 answersTo r a =
     refusalOf r a when (refusalOf r a ≡ 0 → ⊥) ∷

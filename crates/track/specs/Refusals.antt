@@ -80,7 +80,7 @@ first-as (k when P ∷ rs) (l when Q ∷ ss) n s (inl h) = inl (s .1 .0 (h .0), 
 first-as (k when P ∷ rs) (l when Q ∷ ss) n s (inr h) = inr (λ q. h .0 (s .1 .1 q), first-as rs ss n (s .2) (h .1))
 
 -- ---- reasons one after the other
--- each of the reasons has a number of its own, and 0 is none
+-- no reason has the number 0, which says that nothing is refused
 abbrev pub NoneZero : List Reason → Type 0
 NoneZero [] = Unit {0}
 NoneZero (k when P ∷ rs) = (k ≡ 0 → ⊥) × NoneZero rs
