@@ -5,7 +5,7 @@ use native.Mathlib.Nat.{div-le-self, mul-le-mul, lt-of-le-of-lt, le-trans}
 use native.Mathlib.Omega.{arith}
 use mathlib.Core.List.{List}
 use lib.ListN.{getD}
-use lib.Dec.{T, ltb, leb, eqb, ltb→lt, leb→le, lt→ltb, eqb→eq}
+use lib.Dec.{T, ltb, leb, eqb, ltb→lt, leb→le, lt→ltb, le→leb, eqb→eq}
 use lib.IntN.{ℤ, pos, negsuc, negℤ, natAbs, _+ℤ_, _-ℤ_, _*ℤ_, +ℤ-idl}
 use lib.Signed.{_≤ℤ_, _<ℤ_, mag, natAbs-le, quotZ}
 use borrow.Author.Tests.{eq-eqb}
@@ -14,7 +14,7 @@ use mir.Val.{SFits, hbits, toZ, ofZ}
 use mir.ValLaws as ValLaws
 use Rattle.whole.specs.Difference.{each, all2, difs}
 use Rattle.whole.specs.Order.{≤ℤ-trans}
-use Rattle.whole.specs.Tells.{Tells}
+use Rattle.whole.specs.Tells.{Tells, stable}
 
 -- z lies within `bound` either side of 0. A record, so that both are inferred from a fact
 pub record Within (bound : ℕ) (z : ℤ) : Type 0 where
@@ -90,6 +90,10 @@ from-zero {bound} h k = between (≤ℤ-trans (neg-le bound) h) k
     neg-le : (bound : ℕ) → negℤ (pos bound) ≤ℤ pos 0
     neg-le bound = simp difs (omega arith)
 
+-- a range that cannot be denied holds
+pub within-stable : {bound : ℕ} {z : ℤ} → ((Within bound z → ⊥) → ⊥) → Within bound z
+within-stable {bound} {z} = stable {b = leb (natAbs z) bound} (record { sure = λ t. record { abs = leb→le (natAbs z) bound t }; seen = λ h. le→leb (natAbs z) bound (h .abs) })
+
 -- ---- what fits a width: `fits tt (mul-in h k)`
 mag-abs : (z : ℤ) → mag z ≤ natAbs z
 mag-abs (pos n) = omega arith
@@ -119,6 +123,10 @@ read32 t h = back (fits t h)
 
 pub read64 : {z : ℤ} {bound : ℕ} → T (ltb bound (2 ^ 63)) → Within bound z → toZ w64 (ofZ w64 z) ≡ z
 read64 t h = back (fits t h)
+
+-- a call's result z, and `c .call .ok` is the fact that it fits
+pub word-back : (z : ℤ) → mag z < 2 ^ hbits w32 → toZ w32 (ofZ w32 z) ≡ z
+word-back z small = back (record { sfits = small })
 
 -- `-x` in the code is 0 − x
 pub neg-read32 : {z : ℤ} {bound : ℕ} → T (ltb bound (2 ^ 31)) → Within bound z → toZ w32 (ofZ w32 (pos 0 -ℤ z)) ≡ negℤ z

@@ -4,7 +4,7 @@ use native.Mathlib.Omega.{arith}
 use mir.Syntax.{w32}
 use mir.Val.{toZ}
 use borrow.Author.Needs.{needs}
-use Rattle.words.specs.WordLaws.{word-back}
+use Rattle.whole.specs.Within.{word-back}
 use Rattle.track.specs.Hull.{greater}
 use Rattle.node.specs.Entry.{untilOf}
 use Rattle.node.specs.EntryLaws.{count-fits}
