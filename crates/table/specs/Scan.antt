@@ -74,6 +74,22 @@ pub record Entered (N : Nodes) (C : ℕ → Type 0) (cells : ℕ) (clock : ℤ) 
   pub entered : r ≡ true → EntrySound N cells clock h e × C (childOf e) × (getD marks (childOf e) 0 ≡ 0) × (marks′ ≡ set marks (childOf e) 1)
   pub refused : r ≡ false → (EntrySound N cells clock h e → C (childOf e) → getD marks (childOf e) 0 ≡ 0 → ⊥) × (marks′ ≡ marks)
 
+true-false : true ≡ false → ⊥
+true-false e = let z : _≡_ {A = ℕ} 0 1 = cc in omega arith
+
+pub taken-yes : {cells : ℕ} {e : Entry} {keys : List ℕ} {m : ℕ} {keys′ : List ℕ} → CellInRange (cellOf e) → m < cells → keys′ ≡ set keys m (keyOf e) → Taken cells e keys m true keys′
+taken-yes c lt k = record { taken = λ t. (c, lt, k); refused = λ f. absurd (true-false f) }
+
+pub taken-no : {cells : ℕ} {e : Entry} {keys : List ℕ} {m : ℕ} {keys′ : List ℕ} → (CellInRange (cellOf e) → m < cells → ⊥) → keys′ ≡ keys → Taken cells e keys m false keys′
+taken-no n k = record { taken = λ t. absurd (true-false (sym t)); refused = λ f. (n, k) }
+
+module _ {N : Nodes} {C : ℕ → Type 0} {cells : ℕ} {clock : ℤ} {h : ℕ} {e : Entry} {marks marks′ : List ℕ} where
+  pub entered-yes : EntrySound N cells clock h e → C (childOf e) → getD marks (childOf e) 0 ≡ 0 → marks′ ≡ set marks (childOf e) 1 → Entered N C cells clock h e marks true marks′
+  entered-yes s c z k = record { entered = λ t. (s, c, z, k); refused = λ f. absurd (true-false f) }
+
+  pub entered-no : (EntrySound N cells clock h e → C (childOf e) → getD marks (childOf e) 0 ≡ 0 → ⊥) → marks′ ≡ marks → Entered N C cells clock h e marks false marks′
+  entered-no n k = record { entered = λ t. absurd (true-false (sym t)); refused = λ f. (n, k) }
+
 -- ---- what is tested of the entries es, and what a pass leaves
 pub record Passes (N : Nodes) (C : ℕ → Type 0) (cells : ℕ) (clock : ℤ) (h : ℕ) (es : List Entry) (marks : List ℕ) (m : ℕ) : Type 0 where
   pub sound : SoundIn N cells clock h es
