@@ -3,3 +3,5 @@ pub mod EntryLaws
 pub mod WorkedOut
 pub mod Pass
 pub mod Ninth
+pub mod Change
+pub mod ChangeLaws
