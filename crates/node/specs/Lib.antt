@@ -5,3 +5,5 @@ pub mod Pass
 pub mod Ninth
 pub mod Change
 pub mod ChangeLaws
+pub mod Made
+pub mod MadeLaws

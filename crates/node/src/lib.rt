@@ -2,4 +2,5 @@
 pub mod change;
 pub mod change_at;
 pub mod entry;
+pub mod made;
 pub mod worked;
