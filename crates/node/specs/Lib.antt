@@ -5,5 +5,7 @@ pub mod Pass
 pub mod Ninth
 pub mod Change
 pub mod ChangeLaws
+pub mod ChangeAt
+pub mod ChangeAtLaws
 pub mod Made
 pub mod MadeLaws

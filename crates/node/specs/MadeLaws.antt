@@ -6,6 +6,7 @@ use Prim.Native.Nat.{ℕ, _+_, _*_, _≤_}
 use native.Mathlib.Omega.{arith}
 use lib.IntN.{ℤ, pos, natAbs, _+ℤ_, _*ℤ_}
 use lib.ListN.{length, getD}
+use lib.Signed.{_≤ℤ_}
 use Rattle.whole.specs.Lists.{_∈_}
 use Rattle.whole.specs.Within.{Within, abs-positive, add-in, mul-in, lit-in}
 use Rattle.words.specs.Layout.{entryWords}
@@ -15,7 +16,7 @@ use Rattle.track.specs.Numbers.{IsMinute, minute-in}
 use Rattle.track.specs.Meets.{Row, cellBounds}
 use Rattle.track.specs.Small.{RowInRange, CellInRange}
 use Rattle.track.specs.HullLaws.{hull-tight}
-use Rattle.track.specs.HullRange.{IsEdgeAt, RowInRangeAt, row-at-zero, tight-in-range, cell-in-range}
+use Rattle.track.specs.HullRange.{IsEdgeAt, RowInRangeAt, BoundsInRangeAt, row-at-zero, tight-in-range, cell-in-range}
 use Rattle.track.specs.declared.cell.Cell.{Cell}
 use Rattle.node.specs.Entry.{Entry, cellOf, childWord, stampOf, boundsOf, untilOf}
 use Rattle.node.specs.WorkedOut.{rowOf, hullOn, latestOf, WorkedOut}
@@ -56,6 +57,11 @@ hullOn-kept leaf axis {minute} es is each =
 pub cells-in-range : (minute : ℤ) {es : List Entry} → ((e : Entry) → e ∈ es → CellInRange (cellOf e)) → InRangeAt true minute es
 unfolding boundsOf
 cells-in-range minute each = λ e m. cell-in-range (natAbs minute) (each e m)
+
+-- inner entries whose stamps are not after the minute, and which are in range at every minute from their stamp on
+pub stamped-in-range : {minute : ℤ} {es : List Entry} → IsMinute minute → ((e : Entry) → e ∈ es → stampOf e ≤ℤ minute)
+    → ((e : Entry) → e ∈ es → (m : ℕ) → stampOf e ≤ℤ pos m → BoundsInRangeAt m (boundsOf false e)) → InRangeAt false minute es
+stamped-in-range {minute} is early each = λ e m. each e m (natAbs minute) (rw (abs-positive minute (is .from)) at (early e m))
 
 -- ---- an inner entry
 module _ (child : ℕ) (made : Worked) (stamp : ℤ) where
