@@ -1,2 +1,3 @@
 pub mod Weights
 pub mod Moved
+pub mod Regroup

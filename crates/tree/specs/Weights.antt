@@ -270,16 +270,6 @@ unfolding sumOver times flatMap
 times-flat j f [] = refl
 times-flat j f (x ∷ l) = omega (arith, times-append j (f x) (flatMap f l), times-flat j f l)
 
-times-map : {A : Type 0} (j : ℕ) (f : A → ℕ) (l : List A) → times j (map f l) ≡ sumOver (λ x. isNode j (f x)) l
-unfolding sumOver times
-times-map j f [] = refl
-times-map j f (x ∷ l) = omega (arith, times-map j f l)
-
-sum-plus : {A : Type 0} (f g : A → ℕ) (l : List A) → sumOver (λ x. f x + g x) l ≡ sumOver f l + sumOver g l
-unfolding sumOver
-sum-plus f g [] = refl
-sum-plus f g (x ∷ l) = omega (arith, sum-plus f g l)
-
 module _ (N : Nodes) where
   weight-sum : (φ : Entry → ℕ) (h : ℕ) (es : List Entry) → weightIn φ N h es ≡ sumOver (entryWeight φ N h) es
   unfolding leavesIn entryWeight
