@@ -1,8 +1,9 @@
 -- An inner node and some of its children rewritten: one law for a refreshed entry, a split, a join and a sharing out.
-use mathlib.Core.Path.{_≡_, refl, sym, ap, _∙_}
+use mathlib.Core.Path.{_≡_, refl, sym, ap, _∙_, subst}
 use mathlib.Core.Logic.{⊎-elim}
 use mathlib.Core.List.{List, [], _∷_, _++_, map, flatMap, List·Memᴰ·head, List·Memᴰ·tail, List·Memᴰ·cases-cons, List·Memᴰ·append-cases, List·Memᴰ·eq-of-singleton}
 use Prim.Native.Nat.{ℕ, zero, suc, _+_, _≤_, _<_}
+use native.Mathlib.Decide.{ℕ-discrete}
 use native.Mathlib.Omega.{arith}
 use lib.IntN.{ℤ}
 use lib.ListN.{length}
@@ -15,8 +16,8 @@ use Rattle.node.specs.WorkedOut.{WorkedOut}
 use Rattle.table.specs.Header.{IsNode}
 use Rattle.table.specs.Tree.{Nodes, isLeaf, NotBefore, EntrySound, TreeSound}
 use Rattle.table.specs.Reach.{in-flat}
-use Rattle.table.specs.Scan.{SoundIn, in-sound}
-use Rattle.tree.specs.Weights.{sumOver, sum-none, sum-cons, sum-append, sum-flat, SameWeights, same-sym, same-entries, weight, visits, weightIn, visitsIn, Once, isNode, is-self, is-other, times-cons, times-none, under, AgreeIn, weight-has, visits-has, weight-same, visits-same, weight-append, visits-append, weight-under, visits-under, leaves-in-frame, nodes-in-frame, sound-in-frame, sound-part}
+use Rattle.table.specs.Scan.{SoundIn, sound-in, in-sound}
+use Rattle.tree.specs.Weights.{sumOver, sum-none, sum-cons, sum-append, sum-flat, SameWeights, same-refl, same-as, same-sym, same-trans, same-append, same-entries, weight, visits, weightIn, visitsIn, Once, isNode, is-self, is-other, not-other, times-cons, times-none, under, AgreeIn, weight-has, visits-has, visits-child, visits-self, weight-same, visits-same, weight-append, visits-append, weight-under, visits-under, leaves-in-frame, nodes-in-frame, sound-in-frame, sound-part, sound-append}
 use Rattle.tree.specs.Moved.{Moved, noWeight, noNode, moved-as}
 
 -- how often node j is the child of one of the entries es
@@ -86,14 +87,23 @@ module _ {N N′ : Nodes} {h i : ℕ} {olds news rest : List Entry} (r : Regroup
     weight = λ φ.
         omega (
           arith,
-          weight-has N φ (suc h) i (r .before), weight-append N φ (suc h) olds rest, weight-under N φ h olds,
-          weight-has N′ φ (suc h) i (r .after), weight-append N′ φ (suc h) news rest, weight-under N′ φ h news, weight-same N′ φ h (r .shared),
-          ap (sumOver φ) (leaves-in-frame N N′ h (under N olds) under-agree), ap (sumOver φ) (leaves-in-frame N N′ (suc h) rest rest-agree),
+          weight-has N φ (suc h) i (r .before),
+          weight-append N φ (suc h) olds rest,
+          weight-under N φ h olds,
+          weight-has N′ φ (suc h) i (r .after),
+          weight-append N′ φ (suc h) news rest,
+          weight-under N′ φ h news,
+          weight-same N′ φ h (r .shared),
+          ap (sumOver φ) (leaves-in-frame N N′ h (under N olds) under-agree),
+          ap (sumOver φ) (leaves-in-frame N N′ (suc h) rest rest-agree),
         );
     met = λ j.
         omega (
-          arith, met-before j, met-after j,
-          ap (times j) (nodes-in-frame N N′ h (under N olds) under-agree), ap (times j) (nodes-in-frame N N′ (suc h) rest rest-agree),
+          arith,
+          met-before j,
+          met-after j,
+          ap (times j) (nodes-in-frame N N′ h (under N olds) under-agree),
+          ap (times j) (nodes-in-frame N N′ (suc h) rest rest-agree),
         );
   }
 
@@ -116,3 +126,127 @@ module _ {N N′ : Nodes} {h i : ℕ} {olds news rest : List Entry} (r : Regroup
           let all = sound-in-frame N N′ cells clock h (under N olds) under-agree under-sound in
           let own = sound-part N′ cells clock h {es = N′ (childOf e)} (λ f n. same-entries (same-sym (r .shared)) f (in-flat (λ d. N′ (childOf d)) m n)) all in
           (afresh-sound (afresh e m) own, in-sound N′ cells clock h (childOf e) own)
+
+-- ---- one entry and two
+module _ (N : Nodes) where
+  child-one : (a : Entry) (j : ℕ) → children (a ∷ []) j ≡ isNode j (childOf a)
+  child-one a j = omega (arith, times-cons j (childOf a) [], times-none j)
+
+  child-two : (a b : Entry) (j : ℕ) → children (a ∷ b ∷ []) j ≡ isNode j (childOf a) + isNode j (childOf b)
+  child-two a b j = omega (arith, times-cons j (childOf a) (childOf b ∷ []), child-one b j)
+
+  pub under-one : (a : Entry) → SameWeights (under N (a ∷ [])) (N (childOf a))
+  unfolding flatMap
+  under-one a = record { same = λ φ. omega (arith, sum-append φ (N (childOf a)) [], sum-none φ) }
+
+  pub under-two : (a b : Entry) → SameWeights (under N (a ∷ b ∷ [])) (N (childOf a) ++ N (childOf b))
+  unfolding flatMap
+  under-two a b = same-append {l = N (childOf a)} same-refl (under-one b)
+
+  sound-one : (cells : ℕ) (clock : ℤ) (h : ℕ) (a : Entry) → TreeSound N cells clock h (childOf a) → SoundIn N cells clock h (under N (a ∷ []))
+  sound-one cells clock h a s = sound-part N cells clock h (same-entries (under-one a)) (sound-in N cells clock h (childOf a) s)
+
+  sound-two : (cells : ℕ) (clock : ℤ) (h : ℕ) (a b : Entry) → TreeSound N cells clock h (childOf a) → TreeSound N cells clock h (childOf b) → SoundIn N cells clock h (under N (a ∷ b ∷ []))
+  sound-two cells clock h a b s t =
+      sound-part N cells clock h (same-entries (under-two a b))
+      (sound-append N cells clock h (N (childOf a)) (N (childOf b)) (sound-in N cells clock h (childOf a) s) (sound-in N cells clock h (childOf b) t))
+
+for-one : (P : Entry → Type 0) {a : Entry} → P a → (e : Entry) → e ∈ a ∷ [] → P e
+for-one P p e m = rw (List·Memᴰ·eq-of-singleton m) p
+
+for-two : (P : Entry → Type 0) {a b : Entry} → P a → P b → (e : Entry) → e ∈ a ∷ b ∷ [] → P e
+for-two P {a} p q e m = ⊎-elim (λ (f : e ≡ a). rw f p) (for-one P q e) (List·Memᴰ·cases-cons m)
+
+-- ---- the four ways of regrouping, for a node i below which no node is met twice. Each gives what is moved and that i is sound again
+module _ (N N′ : Nodes) (cells : ℕ) (clock : ℤ) (h i : ℕ) (once : Once N (suc h) i) where
+  -- a child is not its parent
+  pub child-other : {e : Entry} {rest : List Entry} → SameWeights (N i) (e ∷ rest) → childOf e ≡ i → ⊥
+  child-other {e} {rest} has c =
+      omega (arith, once i, visits-has N i (suc h) i has, visits-child N i h e rest, is-self i, subst (λ (k : ℕ). 0 < visits k N h (childOf e)) c (visits-self N h (childOf e)))
+
+  -- refresh: the entry e gives way to e′, for the same child
+  module _ {e e′ : Entry} {rest : List Entry} (has : SameWeights (N i) (e ∷ rest)) (has′ : SameWeights (N′ i) (e′ ∷ rest)) (child : childOf e′ ≡ childOf e)
+      (other : (j : ℕ) → (j ≡ i → ⊥) → N′ j ≡ N j) where
+    pub refresh : Regrouped N N′ h i (e ∷ []) (e′ ∷ []) rest
+    refresh = record {
+      once = once;
+      before = has;
+      after = has′;
+      shared = same-trans (under-one N e) (same-trans (same-as (sym (ap N′ child ∙ other (childOf e) (child-other has)))) (same-sym (under-one N′ e′)));
+      new = λ j. omega (arith, once j, ap (isNode j) child, child-one N e j, child-one N e′ j);
+      other = λ j ne z z′. other j ne;
+    }
+
+    pub refresh-moved : Moved N N′ (suc h) i noWeight noWeight noNode noNode
+    refresh-moved = regroup-as refresh (λ j. omega (arith, ap (isNode j) child, child-one N e j, child-one N e′ j))
+
+    pub refresh-sound : SoundIn N cells clock (suc h) rest → TreeSound N cells clock h (childOf e) → Afresh N′ cells clock h e′ → TreeSound N′ cells clock (suc h) i
+    refresh-sound s t a = regroup-sound refresh cells clock s (sound-one N cells clock h e t) (for-one (Afresh N′ cells clock h) a)
+
+  -- split: some of the entries of e's child stay, for the entry a, and the others go to node f, which was not met, for the entry b
+  module _ {e a b : Entry} {rest : List Entry} (f : ℕ) (has : SameWeights (N i) (e ∷ rest)) (has′ : SameWeights (N′ i) (a ∷ b ∷ rest)) (child : childOf a ≡ childOf e) (child-new : childOf b ≡ f)
+      (parted : SameWeights (N (childOf e)) (N′ (childOf e) ++ N′ f)) (fresh : visits f N (suc h) i ≡ 0)
+      (other : (j : ℕ) → (j ≡ i → ⊥) → (j ≡ childOf e → ⊥) → (j ≡ f → ⊥) → N′ j ≡ N j) where
+    pub split : Regrouped N N′ h i (e ∷ []) (a ∷ b ∷ []) rest
+    split = record {
+      once = once;
+      before = has;
+      after = has′;
+      shared = same-trans (under-one N e) (same-trans parted (same-sym (rw (child, child-new) at (under-two N′ a b))));
+      new = λ j. omega (arith, child-one N e j, child-two N a b j, ap (isNode j) child, ap (isNode j) child-new, room j (ℕ-discrete j f));
+      other = λ j ne z z′.
+          other j ne (is-other (omega (arith, child-one N e j))) (is-other (omega (arith, child-two N a b j, ap (isNode j) child-new)));
+    }
+      where
+        room : (j : ℕ) → Dec (j ≡ f) → visits j N (suc h) i + isNode j f ≤ 1
+        room j (yes q) = rw q (omega (arith, is-self f))
+        room j (no ne) = omega (arith, not-other ne, once j)
+
+    pub split-moved : Moved N N′ (suc h) i noWeight noWeight (λ j. isNode j f) noNode
+    split-moved = regroup-as split (λ j. omega (arith, child-one N e j, child-two N a b j, ap (isNode j) child, ap (isNode j) child-new))
+
+    pub split-sound : SoundIn N cells clock (suc h) rest → TreeSound N cells clock h (childOf e) → Afresh N′ cells clock h a → Afresh N′ cells clock h b → TreeSound N′ cells clock (suc h) i
+    split-sound s t p q = regroup-sound split cells clock s (sound-one N cells clock h e t) (for-two (Afresh N′ cells clock h) p q)
+
+  module _ {a b : Entry} {rest : List Entry} (has : SameWeights (N i) (a ∷ b ∷ rest))
+      (other : (j : ℕ) → (j ≡ i → ⊥) → (j ≡ childOf a → ⊥) → (j ≡ childOf b → ⊥) → N′ j ≡ N j) where
+    beside : (j : ℕ) → (j ≡ i → ⊥) → children (a ∷ b ∷ []) j ≡ 0 → N′ j ≡ N j
+    beside j ne z = other j ne (is-other (omega (arith, child-two N a b j))) (is-other (omega (arith, child-two N a b j)))
+
+    -- join: the child of a takes the entries of b's child, which goes
+    module _ {e : Entry} (has′ : SameWeights (N′ i) (e ∷ rest)) (child : childOf e ≡ childOf a) (joined : SameWeights (N (childOf a) ++ N (childOf b)) (N′ (childOf a))) where
+      pub join : Regrouped N N′ h i (a ∷ b ∷ []) (e ∷ []) rest
+      join = record {
+        once = once;
+        before = has;
+        after = has′;
+        shared = same-trans (under-two N a b) (same-trans joined (same-sym (rw child at (under-one N′ e))));
+        new = λ j. omega (arith, once j, child-two N a b j, child-one N e j, ap (isNode j) child);
+        other = λ j ne z z′. beside j ne z;
+      }
+
+      pub join-moved : Moved N N′ (suc h) i noWeight noWeight noNode (λ j. isNode j (childOf b))
+      join-moved = regroup-as join (λ j. omega (arith, child-two N a b j, child-one N e j, ap (isNode j) child))
+
+      pub join-sound : SoundIn N cells clock (suc h) rest → TreeSound N cells clock h (childOf a) → TreeSound N cells clock h (childOf b) → Afresh N′ cells clock h e → TreeSound N′ cells clock (suc h) i
+      join-sound s t u p = regroup-sound join cells clock s (sound-two N cells clock h a b t u) (for-one (Afresh N′ cells clock h) p)
+
+    -- share: the children of a and of b share their entries out anew
+    module _ {a′ b′ : Entry} (has′ : SameWeights (N′ i) (a′ ∷ b′ ∷ rest)) (child-a : childOf a′ ≡ childOf a) (child-b : childOf b′ ≡ childOf b)
+        (shared : SameWeights (N (childOf a) ++ N (childOf b)) (N′ (childOf a) ++ N′ (childOf b))) where
+      pub share : Regrouped N N′ h i (a ∷ b ∷ []) (a′ ∷ b′ ∷ []) rest
+      share = record {
+        once = once;
+        before = has;
+        after = has′;
+        shared = same-trans (under-two N a b) (same-trans shared (same-sym (rw (child-a, child-b) at (under-two N′ a′ b′))));
+        new = λ j. omega (arith, once j, child-two N a b j, child-two N a′ b′ j, ap (isNode j) child-a, ap (isNode j) child-b);
+        other = λ j ne z z′. beside j ne z;
+      }
+
+      pub share-moved : Moved N N′ (suc h) i noWeight noWeight noNode noNode
+      share-moved = regroup-as share (λ j. omega (arith, child-two N a b j, child-two N a′ b′ j, ap (isNode j) child-a, ap (isNode j) child-b))
+
+      pub share-sound : SoundIn N cells clock (suc h) rest → TreeSound N cells clock h (childOf a) → TreeSound N cells clock h (childOf b) → Afresh N′ cells clock h a′ → Afresh N′ cells clock h b′
+          → TreeSound N′ cells clock (suc h) i
+      share-sound s t u p q = regroup-sound share cells clock s (sound-two N cells clock h a b t u) (for-two (Afresh N′ cells clock h) p q)

@@ -92,6 +92,9 @@ module _ {A : Type 0} where
   pub same-refl : {l : List A} → SameWeights l l
   same-refl = record { same = λ φ. refl }
 
+  pub same-as : {l m : List A} → l ≡ m → SameWeights l m
+  same-as e = record { same = λ φ. ap (sumOver φ) e }
+
   pub same-sym : {l m : List A} → SameWeights l m → SameWeights m l
   same-sym s = record { same = λ φ. sym (s .same φ) }
 
