@@ -1,3 +1,4 @@
 pub mod Weights
 pub mod Moved
 pub mod Regroup
+pub mod Leaf
