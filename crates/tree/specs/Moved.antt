@@ -9,12 +9,16 @@ use Rattle.node.specs.Entry.{Entry, childOf}
 use Rattle.table.specs.Tree.{Nodes}
 use Rattle.tree.specs.Weights.{sumOver, SameWeights, weight, visits, visitsIn, Once, isNode, is-self, AgreeIn, weight-has, visits-has, weight-child, visits-child, leaves-in-frame, nodes-in-frame}
 
--- below node i, with h levels beneath it: the weight `put` comes in and `out` goes out, the nodes `got` come in and `gone` go out,
--- and no node is touched but those met before and those that come in
-pub record Moved (N N′ : Nodes) (h i : ℕ) (put out : (Entry → ℕ) → ℕ) (got gone : ℕ → ℕ) : Type 0 where
+-- from the tree below node i, with h levels beneath it, to the tree below node i′, with h′ levels: the weight `put` comes in and `out` goes
+-- out, the nodes `got` come in and `gone` go out, and no node is touched but those met before and those that come in
+pub record MovedTo (N N′ : Nodes) (h i h′ i′ : ℕ) (put out : (Entry → ℕ) → ℕ) (got gone : ℕ → ℕ) : Type 0 where
   pub other : (j : ℕ) → visits j N h i ≡ 0 → got j ≡ 0 → N′ j ≡ N j
-  pub weight : (φ : Entry → ℕ) → weight φ N′ h i + out φ ≡ weight φ N h i + put φ
-  pub met : (j : ℕ) → visits j N′ h i + gone j ≡ visits j N h i + got j
+  pub weight : (φ : Entry → ℕ) → weight φ N′ h′ i′ + out φ ≡ weight φ N h i + put φ
+  pub met : (j : ℕ) → visits j N′ h′ i′ + gone j ≡ visits j N h i + got j
+
+-- the same below one node, as all changes are but those of the root
+abbrev pub Moved : Nodes → Nodes → ℕ → ℕ → ((Entry → ℕ) → ℕ) → ((Entry → ℕ) → ℕ) → (ℕ → ℕ) → (ℕ → ℕ) → Type 0
+Moved N N′ h i put out got gone = MovedTo N N′ h i h i put out got gone
 
 -- nothing comes in or goes out
 abbrev pub noWeight : (Entry → ℕ) → ℕ
@@ -30,11 +34,11 @@ Fresh N h i got = (j : ℕ) → 0 < got j → visits j N h i ≡ 0
 pub fresh-none : (N : Nodes) (h i : ℕ) → Fresh N h i noNode
 fresh-none N h i j some = omega arith
 
-module _ {N N′ : Nodes} {h i : ℕ} {put out : (Entry → ℕ) → ℕ} {got gone : ℕ → ℕ} where
+module _ {N N′ : Nodes} {h i h′ i′ : ℕ} {put out : (Entry → ℕ) → ℕ} {got gone : ℕ → ℕ} where
   -- the same change, written otherwise: what comes in and what goes out may both be lessened
-  pub moved-as : {put′ out′ : (Entry → ℕ) → ℕ} {got′ gone′ : ℕ → ℕ} → Moved N N′ h i put out got gone
+  pub moved-as : {put′ out′ : (Entry → ℕ) → ℕ} {got′ gone′ : ℕ → ℕ} → MovedTo N N′ h i h′ i′ put out got gone
       → ((φ : Entry → ℕ) → put φ + out′ φ ≡ put′ φ + out φ) → ((j : ℕ) → got j + gone′ j ≡ got′ j + gone j)
-      → ((j : ℕ) → visits j N h i ≡ 0 → got′ j ≡ 0 → got j ≡ 0) → Moved N N′ h i put′ out′ got′ gone′
+      → ((j : ℕ) → visits j N h i ≡ 0 → got′ j ≡ 0 → got j ≡ 0) → MovedTo N N′ h i h′ i′ put′ out′ got′ gone′
   moved-as m weights nodes in-got = record {
     other = λ j z g. m .other j z (in-got j z g);
     weight = λ φ. omega (arith, m .weight φ, weights φ);
@@ -42,8 +46,8 @@ module _ {N N′ : Nodes} {h i : ℕ} {put out : (Entry → ℕ) → ℕ} {got g
   }
 
   -- one change after another
-  pub moved-trans : {N″ : Nodes} {put′ out′ : (Entry → ℕ) → ℕ} {got′ gone′ : ℕ → ℕ} → Moved N N′ h i put out got gone → Moved N′ N″ h i put′ out′ got′ gone′
-      → Moved N N″ h i (λ φ. put φ + put′ φ) (λ φ. out φ + out′ φ) (λ j. got j + got′ j) (λ j. gone j + gone′ j)
+  pub moved-trans : {N″ : Nodes} {h″ i″ : ℕ} {put′ out′ : (Entry → ℕ) → ℕ} {got′ gone′ : ℕ → ℕ} → MovedTo N N′ h i h′ i′ put out got gone → MovedTo N′ N″ h′ i′ h″ i″ put′ out′ got′ gone′
+      → MovedTo N N″ h i h″ i″ (λ φ. put φ + put′ φ) (λ φ. out φ + out′ φ) (λ j. got j + got′ j) (λ j. gone j + gone′ j)
   moved-trans a b = record {
     other = λ j z g. b .other j (omega (arith, a .met j)) (omega arith) ∙ a .other j z (omega arith);
     weight = λ φ. omega (arith, a .weight φ, b .weight φ);
@@ -51,10 +55,10 @@ module _ {N N′ : Nodes} {h i : ℕ} {put out : (Entry → ℕ) → ℕ} {got g
   }
 
   -- no node is met twice afterwards, where none was and the nodes that come in are fresh
-  pub moved-once : Moved N N′ h i put out got gone → Once N h i → Fresh N h i got → ((j : ℕ) → got j ≤ 1) → Once N′ h i
+  pub moved-once : MovedTo N N′ h i h′ i′ put out got gone → Once N h i → Fresh N h i got → ((j : ℕ) → got j ≤ 1) → Once N′ h′ i′
   moved-once m once fresh single j = by (decLt 0 (got j))
     where
-      by : Dec (0 < got j) → visits j N′ h i ≤ 1
+      by : Dec (0 < got j) → visits j N′ h′ i′ ≤ 1
       by (yes some) = omega (arith, m .met j, fresh j some, single j)
       by (no none) = omega (arith, m .met j, once j)
 

@@ -284,6 +284,13 @@ module _ (N : Nodes) where
   visits-sum j zero es = times-none j ∙ sym (sum-zero es)
   visits-sum j (suc h) es = times-flat j (λ e. nodesOf N h (childOf e)) es
 
+  -- no entries
+  pub weight-none : (φ : Entry → ℕ) (h : ℕ) → weightIn φ N h [] ≡ 0
+  weight-none φ h = omega (arith, weight-sum φ h [], sum-none (entryWeight φ N h))
+
+  pub visits-none : (j h : ℕ) → visitsIn j N h [] ≡ 0
+  visits-none j h = omega (arith, visits-sum j h [], sum-none (entryVisits j N h))
+
   -- a node by its entries
   pub weight-node : (φ : Entry → ℕ) (h i : ℕ) → weight φ N h i ≡ weightIn φ N h (N i)
   weight-node φ h i = ap (sumOver φ) (leaves-in N h i)
@@ -324,14 +331,14 @@ module _ (N : Nodes) where
 
   -- inner entries by the entries of all their children
   pub weight-under : (φ : Entry → ℕ) (h : ℕ) (es : List Entry) → weightIn φ N (suc h) es ≡ weightIn φ N h (under N es)
-  unfolding entryWeight flatMap leavesIn
-  weight-under φ h [] = omega (arith, weight-sum φ h [], weight-sum φ (suc h) [], sum-none (entryWeight φ N h), sum-none (entryWeight φ N (suc h)))
+  unfolding flatMap
+  weight-under φ h [] = omega (arith, weight-none φ h, weight-none φ (suc h))
   weight-under φ h (e ∷ es) =
       omega (arith, weight-child φ h e es, weight-node φ h (childOf e), weight-append φ h (N (childOf e)) (under N es), weight-under φ h es)
 
   pub visits-under : (j h : ℕ) (es : List Entry) → visitsIn j N (suc h) es ≡ times j (map childOf es) + visitsIn j N h (under N es)
-  unfolding entryVisits flatMap nodesIn times
-  visits-under j h [] = omega (arith, visits-sum j h [], visits-sum j (suc h) [], sum-none (entryVisits j N h), sum-none (entryVisits j N (suc h)))
+  unfolding flatMap times
+  visits-under j h [] = omega (arith, visits-none j h, visits-none j (suc h))
   visits-under j h (e ∷ es) =
       omega (arith, visits-child j h e es, visits-node j h (childOf e), visits-append j h (N (childOf e)) (under N es), visits-under j h es)
 
