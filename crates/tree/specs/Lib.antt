@@ -3,3 +3,4 @@ pub mod Moved
 pub mod Regroup
 pub mod Leaf
 pub mod Root
+pub mod Used
