@@ -1,4 +1,5 @@
 pub mod Weights
+pub mod Places
 pub mod Moved
 pub mod Regroup
 pub mod Leaf
