@@ -4,4 +4,5 @@ pub mod Moved
 pub mod Regroup
 pub mod Leaf
 pub mod Root
+pub mod Climb
 pub mod Used

@@ -109,7 +109,7 @@ module _ (i : ℕ) {N N′ : Nodes} {h : ℕ} {e : Entry} {rest : List Entry} {p
   pub down-agree : AgreeIn N N′ (suc h) rest
   down-agree j here = beyond j (omega (arith, parent j)) (omega (arith, parent j, once j))
 
-  down-has : SameWeights (N′ i) (e ∷ rest)
+  pub down-has : SameWeights (N′ i) (e ∷ rest)
   down-has = rw down-node has
 
   pub moved-down : Moved N N′ (suc h) i put out got gone
@@ -135,3 +135,11 @@ module _ (i : ℕ) {N N′ : Nodes} {h : ℕ} {e : Entry} {rest : List Entry} {p
           visits-child N′ j h e rest,
         );
   }
+
+  -- no node is met twice below the parent, where none is below the child
+  pub down-once : Once N′ h (childOf e) → Once N′ (suc h) i
+  down-once child-once j = by (decLt 0 (got j))
+    where
+      by : Dec (0 < got j) → visits j N′ (suc h) i ≤ 1
+      by (yes some) = omega (arith, moved-down .met j, m .met j, fresh j some, parent j, child-once j)
+      by (no none) = omega (arith, moved-down .met j, once j)
