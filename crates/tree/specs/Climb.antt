@@ -20,6 +20,18 @@ pub record Mended (cells : ℕ) (clock : ℤ) (N N′ : Nodes) (h i : ℕ) (put 
   pub once : Once N′ h i
   pub sound : TreeSound N′ cells clock h i
 
+-- after another change
+pub mended-after : {cells : ℕ} {clock : ℤ} {N N₁ N₂ : Nodes} {h i : ℕ} {put out put′ out′ : (Entry → ℕ) → ℕ} {got gone got′ gone′ : ℕ → ℕ}
+    → Moved N N₁ h i put out got gone → Mended cells clock N₁ N₂ h i put′ out′ got′ gone′
+    → Mended cells clock N N₂ h i (λ φ. put φ + put′ φ) (λ φ. out φ + out′ φ) (λ j. got j + got′ j) (λ j. gone j + gone′ j)
+mended-after a b = record { moved = moved-trans a (b .moved); once = b .once; sound = b .sound }
+
+-- the same change, written otherwise
+pub mended-as : {cells : ℕ} {clock : ℤ} {N N′ : Nodes} {h i : ℕ} {put out put′ out′ : (Entry → ℕ) → ℕ} {got gone got′ gone′ : ℕ → ℕ} → Mended cells clock N N′ h i put out got gone
+    → ((φ : Entry → ℕ) → put φ + out′ φ ≡ put′ φ + out φ) → ((j : ℕ) → got j + gone′ j ≡ got′ j + gone j)
+    → ((j : ℕ) → visits j N h i ≡ 0 → got′ j ≡ 0 → got j ≡ 0) → Mended cells clock N N′ h i put′ out′ got′ gone′
+mended-as m weights nodes in-got = record { moved = moved-as (m .moved) weights nodes in-got; once = m .once; sound = m .sound }
+
 -- node i has the entry e, whose child is mended, and the entries rest, which are sound
 module _ (cells : ℕ) (clock : ℤ) (i : ℕ) {N N₁ : Nodes} {h : ℕ} {e : Entry} {rest : List Entry} {put out : (Entry → ℕ) → ℕ} {got gone : ℕ → ℕ}
     (has : SameWeights (N i) (e ∷ rest)) (once : Once N (suc h) i) (fresh : Fresh N (suc h) i got) (rest-sound : SoundIn N cells clock (suc h) rest)

@@ -1,7 +1,7 @@
 -- Nodes in use and free ones: how many there are, how a change moves that, and that a free one is left while a cell is put in.
 use mathlib.Core.Path.{_≡_, refl, sym, ap, _∙_, subst}
 use mathlib.Core.Logic.{⊎-elim}
-use mathlib.Core.List.{List, [], _∷_, _++_, flatMap, List·Memᴰ·head, List·Memᴰ·tail, List·Memᴰ·eq-of-singleton}
+use mathlib.Core.List.{List, [], _∷_, _++_, flatMap, List·Memᴰ·head, List·Memᴰ·tail, List·Memᴰ·cases-cons, List·Memᴰ·eq-of-singleton}
 use Prim.Native.Nat.{ℕ, zero, suc, _+_, _*_, _≤_, _<_}
 use native.Mathlib.Nat.{not-suc-le-zero}
 use native.Mathlib.Decide.{ℕ-discrete, decLt}
@@ -15,7 +15,8 @@ use Rattle.table.specs.Header.{nodesFor}
 use Rattle.table.specs.Tree.{Nodes, leavesOf, nodesOf, TreeSound}
 use Rattle.table.specs.Reach.{node-down}
 use Rattle.table.specs.Counts.{few-nodes, few-below, flat-counts}
-use Rattle.table.specs.Scan.{leavesIn, nodesIn, nodes-in}
+use Rattle.table.specs.Scan.{leavesIn, nodesIn, nodes-in, sound-in}
+use Rattle.table.specs.SoundBy.{nodes-below}
 use Rattle.tree.specs.Weights.{sum-length, SameWeights, same-as, same-sym, same-length, same-entries, same-trans, same-first, visits, Once, isNode, is-self, not-other, times-cons, times-none, visits-has, visits-child, weight-has, weight-child}
 use Rattle.tree.specs.Moved.{MovedTo, Moved, noWeight, noNode, moved-leaves, moved-nodes}
 
@@ -122,6 +123,12 @@ free-unmet N h i j all free = by (decLt 0 (visits j N h i))
         both p q = omega arith
     by (no unmet) = omega arith
 
+-- below a sound node of the table all nodes met are nodes of the table
+pub met-below : (N : Nodes) (cells : ℕ) (clock : ℤ) (h i : ℕ) → TreeSound N cells clock h i → i < nodesFor cells → (j : ℕ) → 0 < visits j N h i → j < nodesFor cells
+met-below N cells clock h i sound lt j met =
+    ⊎-elim (λ (q : j ≡ i). rw q lt) (nodes-below N cells clock h (N i) (sound-in N cells clock h i sound) j)
+    (List·Memᴰ·cases-cons (rw (nodes-in N h i) at (times-in (nodesOf N h i) met)))
+
 -- each node below n is met or free: as many are in use as are met
 pub used-all : (N : Nodes) (n h i : ℕ) → Once N h i → AllUsed N h i → ((j : ℕ) → 0 < visits j N h i → j < n) → ((j : ℕ) → j < n → visits j N h i ≡ 0 → Free N j)
     → used N n ≡ length (nodesOf N h i)
@@ -154,6 +161,12 @@ module _ {N N′ : Nodes} {h i h′ i′ : ℕ} {put out : (Entry → ℕ) → �
       by : Dec (0 < gone j) → Free N′ j
       by (yes some) = freed j some
       by (no none) = m .other j (omega (arith, m .met j)) (omega (arith, m .met j)) ∙ rest j lt (omega (arith, m .met j))
+
+-- a node that is free after a change in which none goes out was free before it
+pub free-back : {N N′ : Nodes} {h i h′ i′ : ℕ} {put out : (Entry → ℕ) → ℕ} {got : ℕ → ℕ} (j : ℕ) → MovedTo N N′ h i h′ i′ put out got noNode → AllUsed N′ h′ i′ → Free N′ j → Free N j
+free-back {N′} {h′} {i′} j m all free =
+    let unmet = free-unmet N′ h′ i′ j all free in
+    sym (m .other j (omega (arith, m .met j)) (omega (arith, m .met j))) ∙ free
 
 -- one node comes in
 pub used-got : {N N′ : Nodes} {h i h′ i′ : ℕ} {put out : (Entry → ℕ) → ℕ} (f n : ℕ) → MovedTo N N′ h i h′ i′ put out (λ j. isNode j f) noNode
@@ -193,13 +206,17 @@ pub two-left : (cells : ℕ) (clock : ℤ) (N : Nodes) (h i : ℕ) → TreeSound
     → length (nodesOf N h i) + 2 ≤ nodesFor cells
 two-left cells clock N h i sound few four = omega (arith, few-nodes N cells clock h i sound)
 
-module _ (cells : ℕ) (clock : ℤ) (N : Nodes) {u : ℕ} where
+module _ (cells : ℕ) (clock : ℤ) (N : Nodes) where
   -- with it a node is left
-  pub room-left : (h i : ℕ) → TreeSound N cells clock h i → Room cells u N h i → u < nodesFor cells
+  pub room-left : (h i : ℕ) {u : ℕ} → TreeSound N cells clock h i → Room cells u N h i → u < nodesFor cells
   room-left h i sound r = omega (arith, r .room, few-nodes N cells clock h i sound)
 
+  -- so there is a free one
+  pub room-free : (h i : ℕ) → TreeSound N cells clock h i → Room cells (used N (nodesFor cells)) N h i → (j : ℕ) × (j < nodesFor cells) × Free N j
+  room-free h i sound r = free-one N (nodesFor cells) (room-left h i sound r)
+
   -- it passes to each child
-  pub room-down : (h i : ℕ) {e : Entry} → TreeSound N cells clock (suc h) i → e ∈ N i → Room cells u N (suc h) i → Room cells u N h (childOf e)
+  pub room-down : (h i : ℕ) {e : Entry} {u : ℕ} → TreeSound N cells clock (suc h) i → e ∈ N i → Room cells u N (suc h) i → Room cells u N h (childOf e)
   unfolding TreeSound leavesIn nodesIn
   room-down h i {e} sound m r =
       let c = cut-at m in

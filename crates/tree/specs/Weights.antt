@@ -351,6 +351,10 @@ module _ (N : Nodes) where
   pub visits-self : (h i : ℕ) → 0 < visits i N h i
   visits-self h i = omega (arith, visits-node i h i, is-self i)
 
+  -- none is met twice below a child, where none is below its parent
+  pub once-child : (h i : ℕ) {e : Entry} {rest : List Entry} → SameWeights (N i) (e ∷ rest) → Once N (suc h) i → Once N h (childOf e)
+  once-child h i {e} {rest} has once j = omega (arith, once j, visits-has j (suc h) i has, visits-child j h e rest)
+
 -- ---- two tables that agree on every node met through some entries
 abbrev pub AgreeIn : Nodes → Nodes → ℕ → List Entry → Type 0
 AgreeIn N N′ h es = (j : ℕ) → 0 < visitsIn j N h es → N′ j ≡ N j
