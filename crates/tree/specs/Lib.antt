@@ -6,3 +6,4 @@ pub mod Leaf
 pub mod Root
 pub mod Climb
 pub mod Used
+pub mod PutIn

@@ -14,7 +14,7 @@ use borrow.Author.Tests.{eq-eqb, ne-eqb}
 use Rattle.whole.specs.Lists.{_∈_, _⊆_, NoRepeat, no-repeat-none, no-repeat-cons}
 use Rattle.whole.specs.Times.{times, once-if, times-append, times-in, in-times, no-repeat-times, times-no-repeat}
 use Rattle.node.specs.Entry.{Entry, childOf}
-use Rattle.table.specs.Tree.{Nodes, leavesOf, nodesOf, TreeSound}
+use Rattle.table.specs.Tree.{Nodes, leavesOf, nodesOf, EntrySound, TreeSound}
 use Rattle.table.specs.Reach.{node-self}
 use Rattle.table.specs.Frame.{flat-same, Agree, leaves-frame, nodes-frame, entry-frame, tree-frame}
 use Rattle.table.specs.Scan.{leavesIn, nodesIn, SoundIn, leaves-in, nodes-in, sound-in, in-sound}
@@ -396,3 +396,14 @@ pub sound-append : (N : Nodes) (cells : ℕ) (clock : ℤ) (h : ℕ) (es fs : Li
 unfolding SoundIn
 sound-append N cells clock zero es fs s t = λ e m. ⊎-elim (s e) (t e) (List·Memᴰ·append-cases es m)
 sound-append N cells clock (suc h) es fs s t = λ e m. ⊎-elim (s e) (t e) (List·Memᴰ·append-cases es m)
+
+-- a sound node that has the entries es, in any order
+pub sound-has : (N : Nodes) (cells : ℕ) (clock : ℤ) (h i : ℕ) {es : List Entry} → SameWeights (N i) es → TreeSound N cells clock h i → SoundIn N cells clock h es
+sound-has N cells clock h i has sound = sound-part N cells clock h (same-entries (same-sym has)) (sound-in N cells clock h i sound)
+
+pub sound-tail : (N : Nodes) (cells : ℕ) (clock : ℤ) (h : ℕ) (e : Entry) (es : List Entry) → SoundIn N cells clock h (e ∷ es) → SoundIn N cells clock h es
+sound-tail N cells clock h e es sound = sound-part N cells clock h (λ d m. List·Memᴰ·tail m) sound
+
+pub sound-head : (N : Nodes) (cells : ℕ) (clock : ℤ) (h : ℕ) (e : Entry) (es : List Entry) → SoundIn N cells clock (suc h) (e ∷ es) → EntrySound N cells clock h e × TreeSound N cells clock h (childOf e)
+unfolding SoundIn
+sound-head N cells clock h e es sound = sound e (List·Memᴰ·head refl)
