@@ -7,3 +7,4 @@ pub mod Root
 pub mod Climb
 pub mod Used
 pub mod PutIn
+pub mod TakeOut

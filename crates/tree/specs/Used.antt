@@ -168,19 +168,23 @@ free-back {N′} {h′} {i′} j m all free =
     let unmet = free-unmet N′ h′ i′ j all free in
     sym (m .other j (omega (arith, m .met j)) (omega (arith, m .met j))) ∙ free
 
--- one node comes in
-pub used-got : {N N′ : Nodes} {h i h′ i′ : ℕ} {put out : (Entry → ℕ) → ℕ} (f n : ℕ) → MovedTo N N′ h i h′ i′ put out (λ j. isNode j f) noNode
-    → Once N h i → Once N′ h′ i′ → AllUsed N h i → AllUsed N′ h′ i′ → Free N f → f < n → used N′ n ≡ used N n + 1
-used-got {N} {N′} f n m once once′ all all′ free lt =
-    let change = used-moved m once once′ all all′ (λ j some. is-free j (ℕ-discrete j f) some) (λ j some. absurd (not-suc-le-zero some)) n in
-    omega (arith, below-none n, below-one f n lt)
+-- what is said of node f, counted
+pub free-node : (N : Nodes) (f : ℕ) → Free N f → (j : ℕ) → 0 < isNode j f → Free N j
+free-node N f free j some = by (ℕ-discrete j f)
   where
-    is-free : (j : ℕ) → Dec (j ≡ f) → 0 < isNode j f → Free N j
-    is-free j (yes e) some = rw e free
-    is-free j (no ne) some = absurd (none (not-other ne))
+    by : Dec (j ≡ f) → Free N j
+    by (yes e) = rw e free
+    by (no ne) = absurd (none (not-other ne))
       where
         none : isNode j f ≡ 0 → ⊥
         none z = omega arith
+
+-- one node comes in
+pub used-got : {N N′ : Nodes} {h i h′ i′ : ℕ} {put out : (Entry → ℕ) → ℕ} (f n : ℕ) → MovedTo N N′ h i h′ i′ put out (λ j. isNode j f) noNode
+    → Once N h i → Once N′ h′ i′ → AllUsed N h i → AllUsed N′ h′ i′ → Free N f → f < n → used N′ n ≡ used N n + 1
+used-got {N} f n m once once′ all all′ free lt =
+    let change = used-moved m once once′ all all′ (free-node N f free) (λ j some. absurd (not-suc-le-zero some)) n in
+    omega (arith, below-none n, below-one f n lt)
 
 -- two changes in which no node comes in: the nodes that go out in either are free in the end
 pub freed-trans : {N N′ N″ : Nodes} {h i h′ i′ h″ i″ : ℕ} {put out put′ out′ : (Entry → ℕ) → ℕ} {gone gone′ : ℕ → ℕ}
