@@ -1,16 +1,16 @@
 -- A change below a child, and the node above it mended: its entry worked out afresh, or its child joined with another or sharing with it.
 use mathlib.Core.Path.{_≡_, refl, ap}
 use mathlib.Core.Logic.{⊎-elim}
-use mathlib.Core.List.{List, [], _∷_, _++_, List·Memᴰ·head, List·Memᴰ·tail, List·Memᴰ·cases-cons, Memᴰ·append-left, Memᴰ·append-right}
+use mathlib.Core.List.{List, [], _∷_, _++_, List·Memᴰ·cases-cons, Memᴰ·append-left, Memᴰ·append-right}
 use Prim.Native.Nat.{ℕ, zero, suc, _+_}
 use native.Mathlib.Omega.{arith}
 use lib.IntN.{ℤ}
 use Rattle.whole.specs.Lists.{_∈_, _⊆_}
 use Rattle.node.specs.Entry.{Entry, childOf}
-use Rattle.table.specs.Tree.{Nodes, EntrySound, TreeSound}
+use Rattle.table.specs.Tree.{Nodes, TreeSound}
 use Rattle.table.specs.Reach.{flat-in}
 use Rattle.table.specs.Scan.{SoundIn, sound-in}
-use Rattle.tree.specs.Weights.{SameWeights, same-refl, same-sym, same-trans, same-append, same-swap, same-entries, visits, Once, isNode, under, sound-in-frame, sound-part}
+use Rattle.tree.specs.Weights.{SameWeights, same-refl, same-sym, same-trans, same-append, same-swap, same-entries, visits, Once, isNode, under, sound-in-frame}
 use Rattle.tree.specs.Moved.{Moved, Fresh, noNode, moved-as, moved-trans, moved-down, down-agree, down-has, down-once}
 use Rattle.tree.specs.Regroup.{children, child-one, child-two, for-one, for-two, Regrouped, Afresh, regroup-as, regroup-once, regroup-sound, refresh, join, share}
 

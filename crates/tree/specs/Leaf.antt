@@ -1,6 +1,5 @@
 -- A leaf's entries rewritten.
 use mathlib.Core.Path.{_≡_}
-use mathlib.Core.List.{List}
 use Prim.Native.Nat.{ℕ, zero, _+_}
 use native.Mathlib.Omega.{arith}
 use lib.IntN.{ℤ}

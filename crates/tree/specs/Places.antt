@@ -1,14 +1,14 @@
 -- The entries of a node by their places: what it has where one is put in the place of another, put behind the others, or taken out.
-use mathlib.Core.Path.{_≡_, sym, ap, subst}
+use mathlib.Core.Path.{_≡_, ap, subst}
 use mathlib.Core.List.{List, [], _∷_, _++_, Memᴰ·append-left, Memᴰ·append-right}
-use Prim.Native.Nat.{ℕ, suc, _+_, _-_, _≤_, _<_}
+use Prim.Native.Nat.{ℕ, suc, _+_, _-_, _<_}
 use native.Mathlib.Decide.{decLt}
 use native.Mathlib.Numerals.{add-one}
 use native.Mathlib.Omega.{arith}
 use lib.ListN.{length, getD, set, take, drop, length-set, length-take, length-drop}
 use lib.Seq.{set-split, set-getD, getD-set-other, getD-take, getD-drop}
 use Rattle.whole.specs.Lists.{_∈_, at-in, cut-at}
-use Rattle.tree.specs.Weights.{sumOver, sum-cons, SameWeights, same-as, same-sym, same-trans, same-first, same-swap}
+use Rattle.tree.specs.Weights.{sumOver, sum-cons, SameWeights, same-as, same-trans, same-first, same-swap}
 
 -- l without what stands at place k
 abbrev pub without : {A : Type 0} → ℕ → List A → List A

@@ -1,22 +1,17 @@
 -- Putting an entry in below a node: into a leaf, below a child whose entry is then worked out afresh, and after a child was split.
-use mathlib.Core.Path.{_≡_, refl, sym, ap, _∙_}
+use mathlib.Core.Path.{_≡_, refl}
 use mathlib.Core.Logic.{⊎-elim}
-use mathlib.Core.List.{List, [], _∷_, _++_, List·Memᴰ·head, List·Memᴰ·tail, List·Memᴰ·cases-cons}
+use mathlib.Core.List.{List, _∷_, List·Memᴰ·cases-cons}
 use Prim.Native.Nat.{ℕ, zero, suc, _+_, _≤_, _<_}
-use native.Mathlib.Decide.{ℕ-discrete, decLt}
+use native.Mathlib.Decide.{ℕ-discrete}
 use native.Mathlib.Nat.{not-suc-le-zero}
 use native.Mathlib.Omega.{arith}
 use lib.IntN.{ℤ}
 use lib.ListN.{length}
-use Rattle.whole.specs.Lists.{_∈_}
 use Rattle.track.specs.Small.{CellInRange}
-use Rattle.track.specs.Numbers.{IsMinute}
-use Rattle.node.specs.Entry.{Entry, cellOf, childOf, childWord, stampOf}
-use Rattle.node.specs.WorkedOut.{WorkedOut}
-use Rattle.table.specs.Header.{nodesFor}
-use Rattle.table.specs.Tree.{Nodes, isLeaf, TreeSound}
-use Rattle.table.specs.Scan.{SoundIn}
-use Rattle.tree.specs.Weights.{sum-cons, SameWeights, same-sym, same-length, same-entries, sound-has, sound-head, sound-tail, visits, Once, isNode, not-other}
+use Rattle.node.specs.Entry.{Entry, cellOf, childOf}
+use Rattle.table.specs.Tree.{Nodes, TreeSound}
+use Rattle.tree.specs.Weights.{sum-cons, SameWeights, same-length, same-entries, sound-has, sound-head, sound-tail, Once, isNode, not-other}
 use Rattle.tree.specs.Moved.{Moved, noWeight, noNode}
 use Rattle.tree.specs.Regroup.{Afresh}
 use Rattle.tree.specs.Leaf.{leaf-moved, leaf-sound}

@@ -1,13 +1,13 @@
 -- An inner node and some of its children rewritten: one law for a refreshed entry, a split, a join and a sharing out.
 use mathlib.Core.Path.{_≡_, refl, sym, ap, _∙_, subst}
 use mathlib.Core.Logic.{⊎-elim}
-use mathlib.Core.List.{List, [], _∷_, _++_, map, flatMap, List·Memᴰ·head, List·Memᴰ·tail, List·Memᴰ·cases-cons, List·Memᴰ·append-cases, List·Memᴰ·eq-of-singleton}
+use mathlib.Core.List.{List, [], _∷_, _++_, map, flatMap, List·Memᴰ·cases-cons, List·Memᴰ·append-cases, List·Memᴰ·eq-of-singleton}
 use Prim.Native.Nat.{ℕ, zero, suc, _+_, _≤_, _<_}
 use native.Mathlib.Decide.{ℕ-discrete}
 use native.Mathlib.Omega.{arith}
 use lib.IntN.{ℤ}
 use lib.ListN.{length}
-use lib.Signed.{_≤ℤ_, ≤ℤ-refl}
+use lib.Signed.{≤ℤ-refl}
 use Rattle.whole.specs.Lists.{_∈_}
 use Rattle.whole.specs.Times.{times}
 use Rattle.track.specs.Numbers.{IsMinute}
@@ -17,7 +17,7 @@ use Rattle.table.specs.Header.{IsNode}
 use Rattle.table.specs.Tree.{Nodes, isLeaf, NotBefore, EntrySound, TreeSound}
 use Rattle.table.specs.Reach.{in-flat}
 use Rattle.table.specs.Scan.{SoundIn, sound-in, in-sound}
-use Rattle.tree.specs.Weights.{sumOver, sum-none, sum-cons, sum-append, sum-flat, SameWeights, same-refl, same-as, same-sym, same-trans, same-append, same-entries, weight, visits, weightIn, visitsIn, Once, isNode, is-self, is-other, not-other, times-cons, times-none, under, AgreeIn, weight-has, visits-has, visits-child, visits-self, weight-same, visits-same, weight-append, visits-append, weight-under, visits-under, leaves-in-frame, nodes-in-frame, sound-in-frame, sound-part, sound-append}
+use Rattle.tree.specs.Weights.{sumOver, sum-none, sum-append, SameWeights, same-refl, same-as, same-sym, same-trans, same-append, same-entries, weight, visits, visitsIn, Once, isNode, is-self, is-other, not-other, times-cons, times-none, under, AgreeIn, weight-has, visits-has, visits-child, visits-self, weight-same, visits-same, weight-append, visits-append, weight-under, visits-under, leaves-in-frame, nodes-in-frame, sound-in-frame, sound-part, sound-append}
 use Rattle.tree.specs.Moved.{Moved, noWeight, noNode, moved-as}
 
 -- how often node j is the child of one of the entries es

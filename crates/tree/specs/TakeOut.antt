@@ -1,16 +1,15 @@
 -- Taking an entry out below a node: from a leaf, and below a child that is then mended.
-use mathlib.Core.Path.{_≡_, refl}
+use mathlib.Core.Path.{_≡_}
 use mathlib.Core.List.{List, [], _∷_, _++_, List·Memᴰ·tail}
 use Prim.Native.Nat.{ℕ, zero, suc, _+_, _≤_, _<_}
 use native.Mathlib.Nat.{not-suc-le-zero}
 use native.Mathlib.Omega.{arith}
 use lib.IntN.{ℤ}
 use lib.ListN.{length}
-use Rattle.whole.specs.Lists.{_∈_}
 use Rattle.node.specs.Entry.{Entry, childOf}
 use Rattle.table.specs.Tree.{Nodes, TreeSound}
 use Rattle.table.specs.Scan.{SoundIn}
-use Rattle.tree.specs.Weights.{sum-cons, SameWeights, same-refl, same-sym, same-trans, same-append, same-swap, same-length, same-entries, sound-has, sound-head, sound-tail, Once, isNode, is-other}
+use Rattle.tree.specs.Weights.{sum-cons, SameWeights, same-refl, same-sym, same-trans, same-append, same-swap, same-length, same-entries, sound-has, sound-head, sound-tail, Once, isNode}
 use Rattle.tree.specs.Moved.{Moved, noWeight, noNode, fresh-none, moved-down}
 use Rattle.tree.specs.Regroup.{Afresh, refresh-moved, join-moved, share-moved}
 use Rattle.tree.specs.Leaf.{leaf-moved, leaf-sound}

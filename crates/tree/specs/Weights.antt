@@ -2,7 +2,7 @@
 use mathlib.Core.Path.{_≡_, refl, sym, ap, _∙_}
 use mathlib.Core.HLevel.{Discrete}
 use mathlib.Core.Logic.{⊎-elim}
-use mathlib.Core.List.{List, [], _∷_, _++_, map, flatMap, List-discrete, List·Memᴰ·head, List·Memᴰ·tail, List·Memᴰ·cases-cons, List·Memᴰ·append-cases, Memᴰ·append-left, Memᴰ·append-right}
+use mathlib.Core.List.{List, [], _∷_, _++_, map, flatMap, List-discrete, List·Memᴰ·head, List·Memᴰ·tail, List·Memᴰ·append-cases}
 use Prim.Native.Nat.{ℕ, zero, suc, _+_, _≤_, _<_}
 use native.Mathlib.Nat.{not-suc-le-zero}
 use native.Mathlib.Decide.{ℕ-discrete, decLt}
@@ -12,12 +12,12 @@ use lib.IntN.{ℤ, ℤ-discrete}
 use lib.ListN.{length}
 use borrow.Author.Tests.{eq-eqb, ne-eqb}
 use Rattle.whole.specs.Lists.{_∈_, _⊆_, NoRepeat, no-repeat-none, no-repeat-cons}
-use Rattle.whole.specs.Times.{times, once-if, times-append, times-in, in-times, no-repeat-times, times-no-repeat}
+use Rattle.whole.specs.Times.{times, once-if, times-append, in-times, no-repeat-times, times-no-repeat}
 use Rattle.node.specs.Entry.{Entry, childOf}
 use Rattle.table.specs.Tree.{Nodes, leavesOf, nodesOf, EntrySound, TreeSound}
 use Rattle.table.specs.Reach.{node-self}
 use Rattle.table.specs.Frame.{flat-same, Agree, leaves-frame, nodes-frame, entry-frame, tree-frame}
-use Rattle.table.specs.Scan.{leavesIn, nodesIn, SoundIn, leaves-in, nodes-in, sound-in, in-sound}
+use Rattle.table.specs.Scan.{leavesIn, nodesIn, SoundIn, leaves-in, nodes-in, sound-in}
 
 -- ---- the sum of φ over a list
 unfoldable pub sumOver : {A : Type 0} → (A → ℕ) → List A → ℕ
