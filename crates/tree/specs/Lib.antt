@@ -8,3 +8,4 @@ pub mod Climb
 pub mod Used
 pub mod PutIn
 pub mod TakeOut
+pub mod Whole

@@ -242,6 +242,13 @@ is-other {j} {k} z e = omega (arith, is-self k, rw e at z)
 pub not-other : {j k : ℕ} → (j ≡ k → ⊥) → isNode j k ≡ 0
 not-other {j} {k} ne = rw (ne-eqb j k ne)
 
+pub is-most : (j k : ℕ) → isNode j k ≤ 1
+is-most j k = by (ℕ-discrete j k)
+  where
+    by : Dec (j ≡ k) → isNode j k ≤ 1
+    by (yes e) = rw e (omega (arith, is-self k))
+    by (no ne) = omega (arith, not-other ne)
+
 pub times-cons : (j k : ℕ) (l : List ℕ) → times j (k ∷ l) ≡ isNode j k + times j l
 unfolding times
 times-cons j k l = refl
