@@ -12,7 +12,7 @@ use lib.IntN.{ℤ, ℤ-discrete}
 use lib.ListN.{length}
 use borrow.Author.Tests.{eq-eqb, ne-eqb}
 use Rattle.whole.specs.Lists.{_∈_, _⊆_, NoRepeat, no-repeat-none, no-repeat-cons}
-use Rattle.whole.specs.Times.{times, once-if, times-append, in-times, no-repeat-times, times-no-repeat}
+use Rattle.whole.specs.Times.{times, once-if, in-times, no-repeat-times, times-no-repeat}
 use Rattle.node.specs.Entry.{Entry, childOf}
 use Rattle.table.specs.Tree.{Nodes, leavesOf, nodesOf, EntrySound, TreeSound}
 use Rattle.table.specs.Reach.{node-self}
@@ -25,6 +25,7 @@ sumOver φ [] = 0
 sumOver φ (x ∷ l) = φ x + sumOver φ l
 
 module _ {A : Type 0} (φ : A → ℕ) where
+  -- of no member, of one more, of one, and of two lists
   pub sum-none : sumOver φ [] ≡ 0
   unfolding sumOver
   sum-none = refl
@@ -64,6 +65,7 @@ unfolding sumOver
 sum-same φ ψ [] each = refl
 sum-same φ ψ (x ∷ l) each = omega (arith, each x (List·Memᴰ·head refl), sum-same φ ψ l (λ y m. each y (List·Memᴰ·tail m)))
 
+-- over images, and over the lists f x for each x
 pub sum-map : {A B : Type 0} (φ : B → ℕ) (f : A → B) (l : List A) → sumOver φ (map f l) ≡ sumOver (λ x. φ (f x)) l
 unfolding sumOver
 sum-map φ f [] = refl
@@ -74,6 +76,7 @@ unfolding sumOver flatMap
 sum-flat φ f [] = refl
 sum-flat φ f (x ∷ l) = omega (arith, sum-append φ (f x) (flatMap f l), sum-flat φ f l)
 
+-- weighed by 1 it is the length, and by whether a member is k how often k stands in it
 pub sum-length : {A : Type 0} (l : List A) → sumOver (λ x. 1) l ≡ length l
 unfolding sumOver
 sum-length [] = refl
@@ -89,6 +92,7 @@ pub record SameWeights {A : Type 0} (l m : List A) : Type 0 where
   pub same : (φ : A → ℕ) → sumOver φ l ≡ sumOver φ m
 
 module _ {A : Type 0} where
+  -- this is so of a list and itself, either way round, through a third, and of lists put together in any order
   pub same-refl : {l : List A} → SameWeights l l
   same-refl = record { same = λ φ. refl }
 
@@ -116,13 +120,15 @@ module _ {A : Type 0} where
   pub same-last : (before : List A) (x : A) (after : List A) → SameWeights (before ++ x ∷ after) ((before ++ after) ++ x ∷ [])
   same-last before x after = same-trans (same-first before x after) (same-swap (x ∷ []) (before ++ after))
 
-  -- one more and one less: l has the weights of x ∷ m
+  -- l has one more than m, which has one less: l has the weights of x ∷ m
   pub same-cons : (x : A) {l m : List A} → ((φ : A → ℕ) → sumOver φ l ≡ sumOver φ m + φ x) → SameWeights l (x ∷ m)
   same-cons x {l} {m} more = record { same = λ φ. omega (arith, more φ, sum-cons φ x m) }
 
+  -- they are equally long
   pub same-length : {l m : List A} → SameWeights l m → length l ≡ length m
   same-length {l} {m} s = omega (arith, s .same (λ x. 1), sum-length l, sum-length m)
 
+-- so are their images, and of numbers each stands equally often in both
 pub same-map : {A B : Type 0} (f : A → B) {l m : List A} → SameWeights l m → SameWeights (map f l) (map f m)
 same-map f {l} {m} s = record { same = λ φ. sum-map φ f l ∙ s .same (λ x. φ (f x)) ∙ sym (sum-map φ f m) }
 
@@ -149,46 +155,46 @@ module _ {A : Type 0} (d : Discrete A) where
       by (yes p) some = p
       by (no n) some = absurd (not-suc-le-zero some)
 
-  countOf : A → List A → ℕ
-  countOf x l = sumOver (λ y. oneIf (d x y)) l
+  howOften : A → List A → ℕ
+  howOften x l = sumOver (λ y. oneIf (d x y)) l
 
-  in-count : {x : A} {l : List A} → x ∈ l → 0 < countOf x l
-  unfolding countOf
+  in-count : {x : A} {l : List A} → x ∈ l → 0 < howOften x l
+  unfolding howOften
   in-count {x} m = omega (arith, sum-at-least (λ y. oneIf (d x y)) m, oneIf-same {x = x} refl)
 
-  count-in : {x : A} (l : List A) → 0 < countOf x l → x ∈ l
-  unfolding countOf
+  count-in : {x : A} (l : List A) → 0 < howOften x l → x ∈ l
+  unfolding howOften
   count-in {x} l some = let r = sum-some (λ y. oneIf (d x y)) l some in rw (oneIf-eq (r .2)) (r .1)
 
-  no-count : {x : A} (l : List A) → (x ∈ l → ⊥) → countOf x l ≡ 0
-  no-count {x} l none = by (ℕ-discrete (countOf x l) 0)
+  no-count : {x : A} (l : List A) → (x ∈ l → ⊥) → howOften x l ≡ 0
+  no-count {x} l none = by (ℕ-discrete (howOften x l) 0)
     where
-      by : Dec (countOf x l ≡ 0) → countOf x l ≡ 0
+      by : Dec (howOften x l ≡ 0) → howOften x l ≡ 0
       by (yes e) = e
       by (no ne) = absurd (none (count-in l (omega arith)))
 
-  count-cons : (x y : A) (l : List A) → countOf x (y ∷ l) ≡ oneIf (d x y) + countOf x l
-  unfolding countOf
+  count-cons : (x y : A) (l : List A) → howOften x (y ∷ l) ≡ oneIf (d x y) + howOften x l
+  unfolding howOften
   count-cons x y l = sum-cons (λ z. oneIf (d x z)) y l
 
-  no-repeat-count : {l : List A} → NoRepeat l → (x : A) → countOf x l ≤ 1
-  unfolding countOf sumOver
+  no-repeat-count : {l : List A} → NoRepeat l → (x : A) → howOften x l ≤ 1
+  unfolding howOften sumOver
   no-repeat-count no-repeat-none x = omega arith
   no-repeat-count (no-repeat-cons {x = y} {l} new once) x = by (no-repeat-count once x) (d x y)
     where
-      by : countOf x l ≤ 1 → (c : Dec (x ≡ y)) → oneIf c + countOf x l ≤ 1
+      by : howOften x l ≤ 1 → (c : Dec (x ≡ y)) → oneIf c + howOften x l ≤ 1
       by le (yes e) = omega (arith, no-count {x = x} l (rw (← e) at new))
       by le (no ne) = omega arith
 
-  count-no-repeat : (l : List A) → ((x : A) → countOf x l ≤ 1) → NoRepeat l
+  count-no-repeat : (l : List A) → ((x : A) → howOften x l ≤ 1) → NoRepeat l
   count-no-repeat [] le = no-repeat-none
   count-no-repeat (x ∷ l) le =
       no-repeat-cons
       (λ (m : x ∈ l). omega (arith, le x, in-count m, oneIf-same {x = x} refl, count-cons x x l))
       (count-no-repeat l (λ y. omega (arith, le y, count-cons y x l)))
 
-  same-count : {l m : List A} → SameWeights l m → (x : A) → countOf x l ≡ countOf x m
-  unfolding countOf
+  same-count : {l m : List A} → SameWeights l m → (x : A) → howOften x l ≡ howOften x m
+  unfolding howOften
   same-count s x = s .same (λ y. oneIf (d x y))
 
   -- lists with the same weights have the same members, and the one has no repeats where the other has none
@@ -223,6 +229,7 @@ visitsIn j N h es = times j (nodesIn N h es)
 abbrev pub Once : Nodes → ℕ → ℕ → Type 0
 Once N h i = (j : ℕ) → visits j N h i ≤ 1
 
+-- that is, none stands twice among the nodes reached
 pub once-no-repeat : (N : Nodes) (h i : ℕ) → Once N h i → NoRepeat (nodesOf N h i)
 once-no-repeat N h i once = times-no-repeat (nodesOf N h i) once
 
@@ -233,6 +240,7 @@ no-repeat-once N h i once = no-repeat-times once
 abbrev pub isNode : ℕ → ℕ → ℕ
 isNode j k = once-if (eqb j k)
 
+-- j is j; where it is 0 they differ, and the other way round; and it is at most 1
 pub is-self : (j : ℕ) → isNode j j ≡ 1
 is-self j = rw (eq-eqb j j refl)
 
@@ -249,6 +257,7 @@ is-most j k = by (ℕ-discrete j k)
     by (yes e) = rw e (omega (arith, is-self k))
     by (no ne) = omega (arith, not-other ne)
 
+-- how often a node stands in a list, one more and none
 pub times-cons : (j k : ℕ) (l : List ℕ) → times j (k ∷ l) ≡ isNode j k + times j l
 unfolding times
 times-cons j k l = refl
@@ -276,9 +285,7 @@ sum-zero [] = refl
 sum-zero (x ∷ l) = omega (arith, sum-zero l)
 
 times-flat : {A : Type 0} (j : ℕ) (f : A → List ℕ) (l : List A) → times j (flatMap f l) ≡ sumOver (λ x. times j (f x)) l
-unfolding sumOver times flatMap
-times-flat j f [] = refl
-times-flat j f (x ∷ l) = omega (arith, times-append j (f x) (flatMap f l), times-flat j f l)
+times-flat j f l = sym (sum-times j (flatMap f l)) ∙ sum-flat (isNode j) f l ∙ sum-same (λ x. sumOver (isNode j) (f x)) (λ x. times j (f x)) l (λ x m. sum-times j (f x))
 
 module _ (N : Nodes) where
   weight-sum : (φ : Entry → ℕ) (h : ℕ) (es : List Entry) → weightIn φ N h es ≡ sumOver (entryWeight φ N h) es
@@ -408,6 +415,7 @@ sound-append N cells clock (suc h) es fs s t = λ e m. ⊎-elim (s e) (t e) (Lis
 pub sound-has : (N : Nodes) (cells : ℕ) (clock : ℤ) (h i : ℕ) {es : List Entry} → SameWeights (N i) es → TreeSound N cells clock h i → SoundIn N cells clock h es
 sound-has N cells clock h i has sound = sound-part N cells clock h (same-entries (same-sym has)) (sound-in N cells clock h i sound)
 
+-- of the first of some entries, and of the others
 pub sound-tail : (N : Nodes) (cells : ℕ) (clock : ℤ) (h : ℕ) (e : Entry) (es : List Entry) → SoundIn N cells clock h (e ∷ es) → SoundIn N cells clock h es
 sound-tail N cells clock h e es sound = sound-part N cells clock h (λ d m. List·Memᴰ·tail m) sound
 

@@ -1,6 +1,6 @@
 -- The tree below the root of a table, whole: sound, no node met twice, and each node of the table met or free.
-use mathlib.Core.Path.{_≡_, refl}
-use mathlib.Core.List.{List, [], _∷_, List·Memᴰ·head}
+use mathlib.Core.Path.{_≡_}
+use mathlib.Core.List.{[], _∷_}
 use Prim.Native.Nat.{ℕ, suc, _+_, _≤_, _<_}
 use native.Mathlib.Nat.{not-suc-le-zero}
 use native.Mathlib.Omega.{arith}
@@ -13,7 +13,7 @@ use Rattle.table.specs.Tree.{Nodes, leavesOf, nodesOf, TreeSound}
 use Rattle.table.specs.Frame.{tree-later}
 use Rattle.table.specs.ScanParts.{node-below}
 use Rattle.tree.specs.Weights.{visits, Once, is-most, same-as, sound-has, sound-head}
-use Rattle.tree.specs.Moved.{MovedTo, noWeight, noNode, moved-once}
+use Rattle.tree.specs.Moved.{moved-once}
 use Rattle.tree.specs.Regroup.{Afresh}
 use Rattle.tree.specs.Root.{grow-moved, grow-sound, way-moved, way-sound}
 use Rattle.tree.specs.Climb.{Mended}
