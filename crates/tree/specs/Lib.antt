@@ -9,3 +9,4 @@ pub mod Used
 pub mod PutIn
 pub mod TakeOut
 pub mod Whole
+pub mod Enter
