@@ -10,9 +10,9 @@ use Rattle.node.specs.Entry.{Entry, childOf}
 use Rattle.table.specs.Tree.{Nodes, TreeSound}
 use Rattle.table.specs.Reach.{flat-in}
 use Rattle.table.specs.Scan.{SoundIn, sound-in}
-use Rattle.tree.specs.Weights.{SameWeights, same-refl, same-sym, same-trans, same-append, same-swap, same-entries, visits, Once, isNode, under, sound-in-frame}
-use Rattle.tree.specs.Moved.{Moved, Fresh, noNode, moved-as, moved-trans, moved-down, down-agree, down-has, down-once}
-use Rattle.tree.specs.Regroup.{children, child-one, child-two, for-one, for-two, Regrouped, Afresh, regroup-as, regroup-once, regroup-sound, refresh, join, share}
+use Rattle.tree.specs.Weights.{SameWeights, same-refl, same-sym, same-trans, same-append, same-swap, same-entries, visits, Once, isNode, under, sound-in-frame, sound-has, sound-head, sound-tail}
+use Rattle.tree.specs.Moved.{Moved, Fresh, noWeight, noNode, moved-as, moved-trans, moved-down, down-agree, down-has, down-once}
+use Rattle.tree.specs.Regroup.{children, child-one, child-two, for-one, for-two, Regrouped, Afresh, regroup-as, regroup-once, regroup-sound, refresh, split, split-moved, split-sound, join, share}
 
 -- what moved below node i, below which no node is met twice, and which is sound again
 pub record Mended (cells : ℕ) (clock : ℤ) (N N′ : Nodes) (h i : ℕ) (put out : (Entry → ℕ) → ℕ) (got gone : ℕ → ℕ) : Type 0 where
@@ -31,6 +31,21 @@ pub mended-as : {cells : ℕ} {clock : ℤ} {N N′ : Nodes} {h i : ℕ} {put ou
     → ((φ : Entry → ℕ) → put φ + out′ φ ≡ put′ φ + out φ) → ((j : ℕ) → got j + gone′ j ≡ got′ j + gone j)
     → ((j : ℕ) → visits j N h i ≡ 0 → got′ j ≡ 0 → got j ≡ 0) → Mended cells clock N N′ h i put′ out′ got′ gone′
 mended-as m weights nodes in-got = record { moved = moved-as (m .moved) weights nodes in-got; once = m .once; sound = m .sound }
+
+-- a child of a sound node is split: some of its entries stay, for the entry a, and the others go to node f, which was not met, for the entry b
+pub split-mended : (cells : ℕ) (clock : ℤ) (N N′ : Nodes) (h i f : ℕ) {e a b : Entry} {rest : List Entry} → Once N (suc h) i → TreeSound N cells clock (suc h) i
+    → SameWeights (N i) (e ∷ rest) → SameWeights (N′ i) (a ∷ b ∷ rest) → childOf a ≡ childOf e → childOf b ≡ f → SameWeights (N (childOf e)) (N′ (childOf e) ++ N′ f)
+    → visits f N (suc h) i ≡ 0 → ((j : ℕ) → (j ≡ i → ⊥) → (j ≡ childOf e → ⊥) → (j ≡ f → ⊥) → N′ j ≡ N j) → Afresh N′ cells clock h a → Afresh N′ cells clock h b
+    → Mended cells clock N N′ (suc h) i noWeight noWeight (λ j. isNode j f) noNode
+split-mended cells clock N N′ h i f {e} {rest} once sound has has′ child child-new parted fresh other afresh-a afresh-b =
+    let all = sound-has N cells clock (suc h) i has sound in
+    record {
+      moved = split-moved N N′ cells clock h i once f has has′ child child-new parted fresh other;
+      once = regroup-once (split N N′ cells clock h i once f has has′ child child-new parted fresh other);
+      sound =
+          split-sound N N′ cells clock h i once f has has′ child child-new parted fresh other
+          (sound-tail N cells clock (suc h) e rest all) (sound-head N cells clock h e rest all .1) afresh-a afresh-b;
+    }
 
 -- node i has the entry e, whose child is mended, and the entries rest, which are sound
 module _ (cells : ℕ) (clock : ℤ) (i : ℕ) {N N₁ : Nodes} {h : ℕ} {e : Entry} {rest : List Entry} {put out : (Entry → ℕ) → ℕ} {got gone : ℕ → ℕ}

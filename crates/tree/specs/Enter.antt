@@ -8,10 +8,10 @@ use lib.ListN.{length}
 use Rattle.node.specs.Entry.{Entry, childOf}
 use Rattle.table.specs.Header.{nodesFor}
 use Rattle.table.specs.Tree.{Nodes, leavesOf, TreeSound}
-use Rattle.table.specs.Scan.{SoundIn}
-use Rattle.tree.specs.Weights.{SameWeights, same-sym, same-length, same-entries, visits, Once, isNode, once-child, sound-has, sound-head, sound-tail}
-use Rattle.tree.specs.Moved.{Moved, noWeight, noNode}
-use Rattle.tree.specs.Regroup.{Afresh, split, split-moved, split-sound, regroup-once}
+use Rattle.tree.specs.Weights.{SameWeights, same-sym, same-length, same-entries, Once, isNode, once-child, sound-has, sound-head}
+use Rattle.tree.specs.Moved.{noWeight, noNode}
+use Rattle.tree.specs.Regroup.{Afresh}
+use Rattle.tree.specs.Climb.{Mended, split-mended}
 use Rattle.tree.specs.Used.{Free, used, AllUsed, sound-used, free-unmet, used-got, Room, room-free, room-down, room-split}
 use Rattle.tree.specs.PutIn.{PutIn, put-after}
 use Rattle.tree.specs.Whole.{Whole, whole-room}
@@ -35,14 +35,11 @@ module _ {cells : ℕ} {clock : ℤ} {N : Nodes} {h i : ℕ} (enter : Enter cell
   enter-free = room-free cells clock N (suc h) i (enter .sound) inner-room
 
   module _ {e : Entry} {rest : List Entry} (has : SameWeights (N i) (e ∷ rest)) where
-    parts-sound : SoundIn N cells clock (suc h) (e ∷ rest)
-    parts-sound = sound-has N cells clock (suc h) i has (enter .sound)
-
     -- a child is entered
     pub enter-child : Enter cells clock N h (childOf e)
     enter-child = record {
       once = once-child N h i has (enter .once);
-      sound = sound-head N cells clock h e rest parts-sound .1;
+      sound = sound-head N cells clock h e rest (sound-has N cells clock (suc h) i has (enter .sound)) .1;
       room = λ inner. room-down cells clock N h i (enter .sound) (same-entries (same-sym has) e (List·Memᴰ·head refl)) inner-room;
     }
 
@@ -53,33 +50,23 @@ module _ {cells : ℕ} {clock : ℤ} {N : Nodes} {h i : ℕ} (enter : Enter cell
     module _ {N′ : Nodes} {a b : Entry} (f : ℕ) (free : Free N f) (low : f < nodesFor cells) (has′ : SameWeights (N′ i) (a ∷ b ∷ rest)) (child : childOf a ≡ childOf e) (child-new : childOf b ≡ f)
         (parted : SameWeights (N (childOf e)) (N′ (childOf e) ++ N′ f)) (other : (j : ℕ) → (j ≡ i → ⊥) → (j ≡ childOf e → ⊥) → (j ≡ f → ⊥) → N′ j ≡ N j)
         (afresh-a : Afresh N′ cells clock h a) (afresh-b : Afresh N′ cells clock h b) where
-      fresh : visits f N (suc h) i ≡ 0
-      fresh = free-unmet N (suc h) i f all-used free
-
-      moved : Moved N N′ (suc h) i noWeight noWeight (λ j. isNode j f) noNode
-      moved = split-moved N N′ cells clock h i (enter .once) f has has′ child child-new parted fresh other
-
-      once′ : Once N′ (suc h) i
-      once′ = regroup-once (split N N′ cells clock h i (enter .once) f has has′ child child-new parted fresh other)
-
-      sound′ : TreeSound N′ cells clock (suc h) i
-      sound′ =
-          split-sound N N′ cells clock h i (enter .once) f has has′ child child-new parted fresh other
-          (sound-tail N cells clock (suc h) e rest parts-sound) (sound-head N cells clock h e rest parts-sound .1) afresh-a afresh-b
+      pub split-entered : Mended cells clock N N′ (suc h) i noWeight noWeight (λ j. isNode j f) noNode
+      split-entered =
+          split-mended cells clock N N′ h i f (enter .once) (enter .sound) has has′ child child-new parted (free-unmet N (suc h) i f all-used free) other afresh-a afresh-b
 
       all-used′ : AllUsed N′ (suc h) i
-      all-used′ = sound-used N′ cells clock (suc h) i sound′ (omega (arith, same-length has′))
+      all-used′ = sound-used N′ cells clock (suc h) i (split-entered .sound) (omega (arith, same-length has′))
 
       -- node i is entered still
       pub enter-split : Enter cells clock N′ (suc h) i
       enter-split = record {
-        once = once′;
-        sound = sound′;
+        once = split-entered .once;
+        sound = split-entered .sound;
         room = λ inner.
-            rw (used-got f (nodesFor cells) moved (enter .once) once′ all-used all-used′ free low)
-            (room-split cells f moved (omega (arith, same-length has, same-length has′)) inner-room);
+            rw (used-got f (nodesFor cells) (split-entered .moved) (enter .once) (split-entered .once) all-used all-used′ free low)
+            (room-split cells f (split-entered .moved) (omega (arith, same-length has, same-length has′)) inner-room);
       }
 
       -- and what is put in then is put in over all
       pub put-split : {N″ : Nodes} {x : Entry} → PutIn cells clock N′ N″ (suc h) i x → PutIn cells clock N N″ (suc h) i x
-      put-split p = put-after f moved free all-used′ (omega (arith, same-length has, same-length has′)) p
+      put-split p = put-after f (split-entered .moved) free all-used′ (omega (arith, same-length has, same-length has′)) p

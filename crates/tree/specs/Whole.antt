@@ -1,5 +1,5 @@
 -- The tree below the root of a table, whole: sound, no node met twice, and each node of the table met or free.
-use mathlib.Core.Path.{_≡_}
+use mathlib.Core.Path.{_≡_, ap}
 use mathlib.Core.List.{[], _∷_}
 use Prim.Native.Nat.{ℕ, suc, _+_, _≤_, _<_}
 use native.Mathlib.Nat.{not-suc-le-zero}
@@ -12,8 +12,8 @@ use Rattle.table.specs.Header.{nodesFor}
 use Rattle.table.specs.Tree.{Nodes, leavesOf, nodesOf, TreeSound}
 use Rattle.table.specs.Frame.{tree-later}
 use Rattle.table.specs.ScanParts.{node-below}
-use Rattle.tree.specs.Weights.{visits, Once, is-most, same-as, sound-has, sound-head}
-use Rattle.tree.specs.Moved.{moved-once}
+use Rattle.tree.specs.Weights.{visits, Once, is-most, times-cons, times-none, same-as, sound-has, sound-head}
+use Rattle.tree.specs.Moved.{moved-once, moved-nodes}
 use Rattle.tree.specs.Regroup.{Afresh}
 use Rattle.tree.specs.Root.{grow-moved, grow-sound, way-moved, way-sound}
 use Rattle.tree.specs.Climb.{Mended}
@@ -39,6 +39,10 @@ module _ {cells : ℕ} {clock : ℤ} {N : Nodes} {h i : ℕ} (w : Whole cells cl
   whole-used some =
       used-all N (nodesFor cells) h i (w .once) (sound-used N cells clock h i (w .sound) some) (met-below N cells clock h i (w .sound) (w .root-in)) (w .rest-free)
 
+  -- no free node is met
+  pub whole-fresh : 0 < length (N i) → (f : ℕ) → Free N f → visits f N h i ≡ 0
+  whole-fresh some f free = free-unmet N h i f (sound-used N cells clock h i (w .sound) some) free
+
   -- with room for one more cell there is room below a root with two entries
   pub whole-room : length (leavesOf N h i) < cells → 2 ≤ length (N i) → Room cells (used N (nodesFor cells)) N h i
   whole-room few two = rw (whole-used (omega arith)) (room-root cells N h i few two)
@@ -51,14 +55,25 @@ module _ {cells : ℕ} {clock : ℤ} {N : Nodes} {h i : ℕ} (w : Whole cells cl
 pub whole-grow : {cells : ℕ} {clock : ℤ} {N N′ : Nodes} {h : ℕ} (r : ℕ) {e : Entry} → Whole cells clock N h (childOf e) → 0 < length (N (childOf e)) → Free N r → r < nodesFor cells
     → N′ r ≡ e ∷ [] → ((j : ℕ) → (j ≡ r → ⊥) → N′ j ≡ N j) → Afresh N′ cells clock h e → Whole cells clock N′ (suc h) r
 whole-grow {cells} {clock} {N} {N′} {h} r {e} w some-entry free low only other afresh =
-    let fresh = free-unmet N h (childOf e) r (sound-used N cells clock h (childOf e) (w .sound) some-entry) free in
+    let fresh = whole-fresh w some-entry r free in
     let m = grow-moved N N′ h r only fresh other in
     record {
-      once = moved-once m (w .once) (λ j some. free-unmet N h (childOf e) j (sound-used N cells clock h (childOf e) (w .sound) some-entry) (free-node N r free j some)) (λ j. is-most j r);
+      once = moved-once m (w .once) (λ j some. whole-fresh w some-entry j (free-node N r free j some)) (λ j. is-most j r);
       sound = grow-sound N N′ h r only fresh other cells clock (w .sound) afresh;
       root-in = low;
       rest-free = moved-rest m (nodesFor cells) (w .rest-free) (λ j none. absurd (not-suc-le-zero none));
     }
+
+-- one node more is in use then
+pub grown-used : {cells : ℕ} {clock : ℤ} {N N′ : Nodes} {h : ℕ} (r : ℕ) {e : Entry} → Whole cells clock N h (childOf e) → 0 < length (N (childOf e)) → Whole cells clock N′ (suc h) r
+    → N′ r ≡ e ∷ [] → Free N r → ((j : ℕ) → (j ≡ r → ⊥) → N′ j ≡ N j) → used N′ (nodesFor cells) ≡ used N (nodesFor cells) + 1
+grown-used {cells} {N} {N′} {h} r {e} w some w′ only free other =
+    omega (
+      arith,
+      whole-used w some,
+      whole-used w′ (omega (arith, ap length only)),
+      moved-nodes (r ∷ []) [] (λ j. omega (arith, times-cons j r [], times-none j)) (λ j. omega (arith, times-none j)) (grow-moved N N′ h r only (whole-fresh w some r free) other),
+    )
 
 -- a root with one entry gives way to its child
 pub whole-way : {cells : ℕ} {clock : ℤ} {N N′ : Nodes} {h r : ℕ} {e : Entry} → Whole cells clock N (suc h) r → N r ≡ e ∷ [] → Free N′ r → ((j : ℕ) → (j ≡ r → ⊥) → N′ j ≡ N j) → Whole cells clock N′ h (childOf e)
