@@ -15,7 +15,7 @@ use Rattle.table.specs.Tree.{Nodes, leavesOf, nodesOf, EntrySound, TreeS
 
 -- ---- nodes and leaf entries
 -- where each x has twice as many in f x as in g x and one more, there are over a list as many more as it is long
-flat-counts : {A B C : Type 0} (f : A → List B) (g : A → List C) (l : List A) → ((x : A) → x ∈ l → 2 * length (g x) + 1 ≤ length (f x))
+pub flat-counts : {A B C : Type 0} (f : A → List B) (g : A → List C) (l : List A) → ((x : A) → x ∈ l → 2 * length (g x) + 1 ≤ length (f x))
     → 2 * length (flatMap g l) + length l ≤ length (flatMap f l)
 unfolding flatMap
 flat-counts f g [] each = omega arith

@@ -1,6 +1,5 @@
 -- A leaf's entries rewritten.
 use mathlib.Core.Path.{_≡_}
-use mathlib.Core.List.{List}
 use Prim.Native.Nat.{ℕ, zero, _+_}
 use native.Mathlib.Omega.{arith}
 use lib.IntN.{ℤ}
@@ -22,7 +21,7 @@ module _ (N N′ : Nodes) (i : ℕ) where
     met = λ j. omega (arith, visits-node N j zero i, visits-node N′ j zero i, visits-leaf N j (N i), visits-leaf N′ j (N′ i));
   }
 
-  -- a leaf is sound where its entries are cells in range
-  pub leaf-sound : (cells : ℕ) (clock : ℤ) → ((e : Entry) → e ∈ N i → CellInRange (cellOf e)) → TreeSound N cells clock zero i
-  unfolding TreeSound
-  leaf-sound cells clock each = each
+-- a leaf is sound where its entries are cells in range
+pub leaf-sound : (N : Nodes) (cells : ℕ) (clock : ℤ) (i : ℕ) → ((e : Entry) → e ∈ N i → CellInRange (cellOf e)) → TreeSound N cells clock zero i
+unfolding TreeSound
+leaf-sound N cells clock i each = each

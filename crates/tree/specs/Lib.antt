@@ -1,5 +1,12 @@
 pub mod Weights
+pub mod Places
 pub mod Moved
 pub mod Regroup
 pub mod Leaf
 pub mod Root
+pub mod Climb
+pub mod Used
+pub mod PutIn
+pub mod TakeOut
+pub mod Whole
+pub mod Enter

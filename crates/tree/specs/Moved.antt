@@ -1,13 +1,14 @@
 -- What a change of a table does to the tree below a node, and how changes are put together.
 use mathlib.Core.Path.{_≡_, refl, ap, _∙_}
-use mathlib.Core.List.{List, _∷_}
+use mathlib.Core.List.{List, _∷_, _++_}
 use Prim.Native.Nat.{ℕ, suc, _+_, _≤_, _<_}
 use native.Mathlib.Decide.{decLt}
 use native.Mathlib.Omega.{arith}
-use Rattle.whole.specs.Times.{times}
+use lib.ListN.{length, length-append}
+use Rattle.whole.specs.Times.{times, times-append, same-times-length}
 use Rattle.node.specs.Entry.{Entry, childOf}
-use Rattle.table.specs.Tree.{Nodes}
-use Rattle.tree.specs.Weights.{sumOver, SameWeights, weight, visits, visitsIn, Once, isNode, is-self, AgreeIn, weight-has, visits-has, weight-child, visits-child, leaves-in-frame, nodes-in-frame}
+use Rattle.table.specs.Tree.{Nodes, leavesOf, nodesOf}
+use Rattle.tree.specs.Weights.{sumOver, sum-length, SameWeights, same-cons, weight, visits, visitsIn, Once, isNode, is-self, AgreeIn, weight-has, visits-has, weight-child, visits-child, leaves-in-frame, nodes-in-frame}
 
 -- from the tree below node i, with h levels beneath it, to the tree below node i′, with h′ levels: the weight `put` comes in and `out` goes
 -- out, the nodes `got` come in and `gone` go out, and no node is touched but those met before and those that come in
@@ -62,6 +63,28 @@ module _ {N N′ : Nodes} {h i h′ i′ : ℕ} {put out : (Entry → ℕ) → �
       by (yes some) = omega (arith, m .met j, fresh j some, single j)
       by (no none) = omega (arith, m .met j, once j)
 
+  -- how many leaf entries there are afterwards, and how many nodes
+  pub moved-leaves : MovedTo N N′ h i h′ i′ put out got gone → length (leavesOf N′ h′ i′) + out (λ e. 1) ≡ length (leavesOf N h i) + put (λ e. 1)
+  moved-leaves m = omega (arith, m .weight (λ e. 1), sum-length (leavesOf N h i), sum-length (leavesOf N′ h′ i′))
+
+  pub moved-nodes : (gots gones : List ℕ) → ((j : ℕ) → got j ≡ times j gots) → ((j : ℕ) → gone j ≡ times j gones) → MovedTo N N′ h i h′ i′ put out got gone
+      → length (nodesOf N′ h′ i′) + length gones ≡ length (nodesOf N h i) + length gots
+  moved-nodes gots gones is-got is-gone m =
+      let same = same-times-length (nodesOf N′ h′ i′ ++ gones) (nodesOf N h i ++ gots)
+      (λ j. omega (arith, m .met j, is-got j, is-gone j, times-append j (nodesOf N′ h′ i′) gones, times-append j (nodesOf N h i) gots)) in
+      omega (arith, length-append (nodesOf N′ h′ i′) gones, length-append (nodesOf N h i) gots)
+
+-- ---- the leaf entries afterwards, where one is put in, one is taken out, or neither
+module _ {N N′ : Nodes} {h i h′ i′ : ℕ} {got gone : ℕ → ℕ} where
+  pub moved-put : {e : Entry} → MovedTo N N′ h i h′ i′ (λ φ. φ e) noWeight got gone → SameWeights (leavesOf N′ h′ i′) (e ∷ leavesOf N h i)
+  moved-put {e} m = same-cons e (λ φ. omega (arith, m .weight φ))
+
+  pub moved-out : {e : Entry} → MovedTo N N′ h i h′ i′ noWeight (λ φ. φ e) got gone → SameWeights (leavesOf N h i) (e ∷ leavesOf N′ h′ i′)
+  moved-out {e} m = same-cons e (λ φ. omega (arith, m .weight φ))
+
+  pub moved-same : MovedTo N N′ h i h′ i′ noWeight noWeight got gone → SameWeights (leavesOf N′ h′ i′) (leavesOf N h i)
+  moved-same m = record { same = λ φ. omega (arith, m .weight φ) }
+
 pub moved-none : (N : Nodes) (h i : ℕ) → Moved N N h i noWeight noWeight noNode noNode
 moved-none N h i = record { other = λ j z g. refl; weight = λ φ. refl; met = λ j. refl }
 
@@ -86,7 +109,7 @@ module _ (i : ℕ) {N N′ : Nodes} {h : ℕ} {e : Entry} {rest : List Entry} {p
   pub down-agree : AgreeIn N N′ (suc h) rest
   down-agree j here = beyond j (omega (arith, parent j)) (omega (arith, parent j, once j))
 
-  down-has : SameWeights (N′ i) (e ∷ rest)
+  pub down-has : SameWeights (N′ i) (e ∷ rest)
   down-has = rw down-node has
 
   pub moved-down : Moved N N′ (suc h) i put out got gone
@@ -112,3 +135,11 @@ module _ (i : ℕ) {N N′ : Nodes} {h : ℕ} {e : Entry} {rest : List Entry} {p
           visits-child N′ j h e rest,
         );
   }
+
+  -- no node is met twice below the parent, where none is below the child
+  pub down-once : Once N′ h (childOf e) → Once N′ (suc h) i
+  down-once child-once j = by (decLt 0 (got j))
+    where
+      by : Dec (0 < got j) → visits j N′ (suc h) i ≤ 1
+      by (yes some) = omega (arith, moved-down .met j, m .met j, fresh j some, parent j, child-once j)
+      by (no none) = omega (arith, moved-down .met j, once j)

@@ -1,13 +1,13 @@
 -- An inner node and some of its children rewritten: one law for a refreshed entry, a split, a join and a sharing out.
 use mathlib.Core.Path.{_≡_, refl, sym, ap, _∙_, subst}
 use mathlib.Core.Logic.{⊎-elim}
-use mathlib.Core.List.{List, [], _∷_, _++_, map, flatMap, List·Memᴰ·head, List·Memᴰ·tail, List·Memᴰ·cases-cons, List·Memᴰ·append-cases, List·Memᴰ·eq-of-singleton}
+use mathlib.Core.List.{List, [], _∷_, _++_, map, flatMap, List·Memᴰ·cases-cons, List·Memᴰ·append-cases, List·Memᴰ·eq-of-singleton}
 use Prim.Native.Nat.{ℕ, zero, suc, _+_, _≤_, _<_}
 use native.Mathlib.Decide.{ℕ-discrete}
 use native.Mathlib.Omega.{arith}
 use lib.IntN.{ℤ}
 use lib.ListN.{length}
-use lib.Signed.{_≤ℤ_, ≤ℤ-refl}
+use lib.Signed.{≤ℤ-refl}
 use Rattle.whole.specs.Lists.{_∈_}
 use Rattle.whole.specs.Times.{times}
 use Rattle.track.specs.Numbers.{IsMinute}
@@ -17,7 +17,7 @@ use Rattle.table.specs.Header.{IsNode}
 use Rattle.table.specs.Tree.{Nodes, isLeaf, NotBefore, EntrySound, TreeSound}
 use Rattle.table.specs.Reach.{in-flat}
 use Rattle.table.specs.Scan.{SoundIn, sound-in, in-sound}
-use Rattle.tree.specs.Weights.{sumOver, sum-none, sum-cons, sum-append, sum-flat, SameWeights, same-refl, same-as, same-sym, same-trans, same-append, same-entries, weight, visits, weightIn, visitsIn, Once, isNode, is-self, is-other, not-other, times-cons, times-none, under, AgreeIn, weight-has, visits-has, visits-child, visits-self, weight-same, visits-same, weight-append, visits-append, weight-under, visits-under, leaves-in-frame, nodes-in-frame, sound-in-frame, sound-part, sound-append}
+use Rattle.tree.specs.Weights.{sumOver, sum-none, sum-append, SameWeights, same-refl, same-as, same-sym, same-trans, same-append, same-entries, weight, visits, visitsIn, Once, isNode, is-self, is-other, not-other, times-cons, times-none, under, AgreeIn, weight-has, visits-has, visits-child, visits-self, weight-same, visits-same, weight-append, visits-append, weight-under, visits-under, leaves-in-frame, nodes-in-frame, sound-in-frame, sound-part, sound-append}
 use Rattle.tree.specs.Moved.{Moved, noWeight, noNode, moved-as}
 
 -- how often node j is the child of one of the entries es
@@ -128,13 +128,13 @@ module _ {N N′ : Nodes} {h i : ℕ} {olds news rest : List Entry} (r : Regroup
           (afresh-sound (afresh e m) own, in-sound N′ cells clock h (childOf e) own)
 
 -- ---- one entry and two
+pub child-one : (a : Entry) (j : ℕ) → children (a ∷ []) j ≡ isNode j (childOf a)
+child-one a j = omega (arith, times-cons j (childOf a) [], times-none j)
+
+pub child-two : (a b : Entry) (j : ℕ) → children (a ∷ b ∷ []) j ≡ isNode j (childOf a) + isNode j (childOf b)
+child-two a b j = omega (arith, times-cons j (childOf a) (childOf b ∷ []), child-one b j)
+
 module _ (N : Nodes) where
-  child-one : (a : Entry) (j : ℕ) → children (a ∷ []) j ≡ isNode j (childOf a)
-  child-one a j = omega (arith, times-cons j (childOf a) [], times-none j)
-
-  child-two : (a b : Entry) (j : ℕ) → children (a ∷ b ∷ []) j ≡ isNode j (childOf a) + isNode j (childOf b)
-  child-two a b j = omega (arith, times-cons j (childOf a) (childOf b ∷ []), child-one b j)
-
   pub under-one : (a : Entry) → SameWeights (under N (a ∷ [])) (N (childOf a))
   unfolding flatMap
   under-one a = record { same = λ φ. omega (arith, sum-append φ (N (childOf a)) [], sum-none φ) }
@@ -151,10 +151,10 @@ module _ (N : Nodes) where
       sound-part N cells clock h (same-entries (under-two a b))
       (sound-append N cells clock h (N (childOf a)) (N (childOf b)) (sound-in N cells clock h (childOf a) s) (sound-in N cells clock h (childOf b) t))
 
-for-one : (P : Entry → Type 0) {a : Entry} → P a → (e : Entry) → e ∈ a ∷ [] → P e
+pub for-one : (P : Entry → Type 0) {a : Entry} → P a → (e : Entry) → e ∈ a ∷ [] → P e
 for-one P p e m = rw (List·Memᴰ·eq-of-singleton m) p
 
-for-two : (P : Entry → Type 0) {a b : Entry} → P a → P b → (e : Entry) → e ∈ a ∷ b ∷ [] → P e
+pub for-two : (P : Entry → Type 0) {a b : Entry} → P a → P b → (e : Entry) → e ∈ a ∷ b ∷ [] → P e
 for-two P {a} p q e m = ⊎-elim (λ (f : e ≡ a). rw f p) (for-one P q e) (List·Memᴰ·cases-cons m)
 
 -- ---- the four ways of regrouping, for a node i below which no node is met twice. Each gives what is moved and that i is sound again
@@ -173,12 +173,12 @@ module _ (N N′ : Nodes) (cells : ℕ) (clock : ℤ) (h i : ℕ) (once : Once N
       before = has;
       after = has′;
       shared = same-trans (under-one N e) (same-trans (same-as (sym (ap N′ child ∙ other (childOf e) (child-other has)))) (same-sym (under-one N′ e′)));
-      new = λ j. omega (arith, once j, ap (isNode j) child, child-one N e j, child-one N e′ j);
+      new = λ j. omega (arith, once j, ap (isNode j) child, child-one e j, child-one e′ j);
       other = λ j ne z z′. other j ne;
     }
 
     pub refresh-moved : Moved N N′ (suc h) i noWeight noWeight noNode noNode
-    refresh-moved = regroup-as refresh (λ j. omega (arith, ap (isNode j) child, child-one N e j, child-one N e′ j))
+    refresh-moved = regroup-as refresh (λ j. omega (arith, ap (isNode j) child, child-one e j, child-one e′ j))
 
     pub refresh-sound : SoundIn N cells clock (suc h) rest → TreeSound N cells clock h (childOf e) → Afresh N′ cells clock h e′ → TreeSound N′ cells clock (suc h) i
     refresh-sound s t a = regroup-sound refresh cells clock s (sound-one N cells clock h e t) (for-one (Afresh N′ cells clock h) a)
@@ -193,9 +193,9 @@ module _ (N N′ : Nodes) (cells : ℕ) (clock : ℤ) (h i : ℕ) (once : Once N
       before = has;
       after = has′;
       shared = same-trans (under-one N e) (same-trans parted (same-sym (rw (child, child-new) at (under-two N′ a b))));
-      new = λ j. omega (arith, child-one N e j, child-two N a b j, ap (isNode j) child, ap (isNode j) child-new, room j (ℕ-discrete j f));
+      new = λ j. omega (arith, child-one e j, child-two a b j, ap (isNode j) child, ap (isNode j) child-new, room j (ℕ-discrete j f));
       other = λ j ne z z′.
-          other j ne (is-other (omega (arith, child-one N e j))) (is-other (omega (arith, child-two N a b j, ap (isNode j) child-new)));
+          other j ne (is-other (omega (arith, child-one e j))) (is-other (omega (arith, child-two a b j, ap (isNode j) child-new)));
     }
       where
         room : (j : ℕ) → Dec (j ≡ f) → visits j N (suc h) i + isNode j f ≤ 1
@@ -203,7 +203,7 @@ module _ (N N′ : Nodes) (cells : ℕ) (clock : ℤ) (h i : ℕ) (once : Once N
         room j (no ne) = omega (arith, not-other ne, once j)
 
     pub split-moved : Moved N N′ (suc h) i noWeight noWeight (λ j. isNode j f) noNode
-    split-moved = regroup-as split (λ j. omega (arith, child-one N e j, child-two N a b j, ap (isNode j) child, ap (isNode j) child-new))
+    split-moved = regroup-as split (λ j. omega (arith, child-one e j, child-two a b j, ap (isNode j) child, ap (isNode j) child-new))
 
     pub split-sound : SoundIn N cells clock (suc h) rest → TreeSound N cells clock h (childOf e) → Afresh N′ cells clock h a → Afresh N′ cells clock h b → TreeSound N′ cells clock (suc h) i
     split-sound s t p q = regroup-sound split cells clock s (sound-one N cells clock h e t) (for-two (Afresh N′ cells clock h) p q)
@@ -211,7 +211,7 @@ module _ (N N′ : Nodes) (cells : ℕ) (clock : ℤ) (h i : ℕ) (once : Once N
   module _ {a b : Entry} {rest : List Entry} (has : SameWeights (N i) (a ∷ b ∷ rest))
       (other : (j : ℕ) → (j ≡ i → ⊥) → (j ≡ childOf a → ⊥) → (j ≡ childOf b → ⊥) → N′ j ≡ N j) where
     beside : (j : ℕ) → (j ≡ i → ⊥) → children (a ∷ b ∷ []) j ≡ 0 → N′ j ≡ N j
-    beside j ne z = other j ne (is-other (omega (arith, child-two N a b j))) (is-other (omega (arith, child-two N a b j)))
+    beside j ne z = other j ne (is-other (omega (arith, child-two a b j))) (is-other (omega (arith, child-two a b j)))
 
     -- join: the child of a takes the entries of b's child, which goes
     module _ {e : Entry} (has′ : SameWeights (N′ i) (e ∷ rest)) (child : childOf e ≡ childOf a) (joined : SameWeights (N (childOf a) ++ N (childOf b)) (N′ (childOf a))) where
@@ -221,12 +221,12 @@ module _ (N N′ : Nodes) (cells : ℕ) (clock : ℤ) (h i : ℕ) (once : Once N
         before = has;
         after = has′;
         shared = same-trans (under-two N a b) (same-trans joined (same-sym (rw child at (under-one N′ e))));
-        new = λ j. omega (arith, once j, child-two N a b j, child-one N e j, ap (isNode j) child);
+        new = λ j. omega (arith, once j, child-two a b j, child-one e j, ap (isNode j) child);
         other = λ j ne z z′. beside j ne z;
       }
 
       pub join-moved : Moved N N′ (suc h) i noWeight noWeight noNode (λ j. isNode j (childOf b))
-      join-moved = regroup-as join (λ j. omega (arith, child-two N a b j, child-one N e j, ap (isNode j) child))
+      join-moved = regroup-as join (λ j. omega (arith, child-two a b j, child-one e j, ap (isNode j) child))
 
       pub join-sound : SoundIn N cells clock (suc h) rest → TreeSound N cells clock h (childOf a) → TreeSound N cells clock h (childOf b) → Afresh N′ cells clock h e → TreeSound N′ cells clock (suc h) i
       join-sound s t u p = regroup-sound join cells clock s (sound-two N cells clock h a b t u) (for-one (Afresh N′ cells clock h) p)
@@ -240,12 +240,12 @@ module _ (N N′ : Nodes) (cells : ℕ) (clock : ℤ) (h i : ℕ) (once : Once N
         before = has;
         after = has′;
         shared = same-trans (under-two N a b) (same-trans shared (same-sym (rw (child-a, child-b) at (under-two N′ a′ b′))));
-        new = λ j. omega (arith, once j, child-two N a b j, child-two N a′ b′ j, ap (isNode j) child-a, ap (isNode j) child-b);
+        new = λ j. omega (arith, once j, child-two a b j, child-two a′ b′ j, ap (isNode j) child-a, ap (isNode j) child-b);
         other = λ j ne z z′. beside j ne z;
       }
 
       pub share-moved : Moved N N′ (suc h) i noWeight noWeight noNode noNode
-      share-moved = regroup-as share (λ j. omega (arith, child-two N a b j, child-two N a′ b′ j, ap (isNode j) child-a, ap (isNode j) child-b))
+      share-moved = regroup-as share (λ j. omega (arith, child-two a b j, child-two a′ b′ j, ap (isNode j) child-a, ap (isNode j) child-b))
 
       pub share-sound : SoundIn N cells clock (suc h) rest → TreeSound N cells clock h (childOf a) → TreeSound N cells clock h (childOf b) → Afresh N′ cells clock h a′ → Afresh N′ cells clock h b′
           → TreeSound N′ cells clock (suc h) i

@@ -2,7 +2,7 @@
 use mathlib.Core.Path.{_≡_, refl, sym, ap, _∙_}
 use mathlib.Core.HLevel.{Discrete}
 use mathlib.Core.Logic.{⊎-elim}
-use mathlib.Core.List.{List, [], _∷_, _++_, map, flatMap, List-discrete, List·Memᴰ·head, List·Memᴰ·tail, List·Memᴰ·cases-cons, List·Memᴰ·append-cases, Memᴰ·append-left, Memᴰ·append-right}
+use mathlib.Core.List.{List, [], _∷_, _++_, map, flatMap, List-discrete, List·Memᴰ·head, List·Memᴰ·tail, List·Memᴰ·append-cases}
 use Prim.Native.Nat.{ℕ, zero, suc, _+_, _≤_, _<_}
 use native.Mathlib.Nat.{not-suc-le-zero}
 use native.Mathlib.Decide.{ℕ-discrete, decLt}
@@ -12,12 +12,12 @@ use lib.IntN.{ℤ, ℤ-discrete}
 use lib.ListN.{length}
 use borrow.Author.Tests.{eq-eqb, ne-eqb}
 use Rattle.whole.specs.Lists.{_∈_, _⊆_, NoRepeat, no-repeat-none, no-repeat-cons}
-use Rattle.whole.specs.Times.{times, once-if, times-append, times-in, in-times, no-repeat-times, times-no-repeat}
+use Rattle.whole.specs.Times.{times, once-if, in-times, no-repeat-times, times-no-repeat}
 use Rattle.node.specs.Entry.{Entry, childOf}
-use Rattle.table.specs.Tree.{Nodes, leavesOf, nodesOf, TreeSound}
+use Rattle.table.specs.Tree.{Nodes, leavesOf, nodesOf, EntrySound, TreeSound}
 use Rattle.table.specs.Reach.{node-self}
 use Rattle.table.specs.Frame.{flat-same, Agree, leaves-frame, nodes-frame, entry-frame, tree-frame}
-use Rattle.table.specs.Scan.{leavesIn, nodesIn, SoundIn, leaves-in, nodes-in, sound-in, in-sound}
+use Rattle.table.specs.Scan.{leavesIn, nodesIn, SoundIn, leaves-in, nodes-in, sound-in}
 
 -- ---- the sum of φ over a list
 unfoldable pub sumOver : {A : Type 0} → (A → ℕ) → List A → ℕ
@@ -25,6 +25,7 @@ sumOver φ [] = 0
 sumOver φ (x ∷ l) = φ x + sumOver φ l
 
 module _ {A : Type 0} (φ : A → ℕ) where
+  -- of no member, of one more, of one, and of two lists
   pub sum-none : sumOver φ [] ≡ 0
   unfolding sumOver
   sum-none = refl
@@ -64,6 +65,7 @@ unfolding sumOver
 sum-same φ ψ [] each = refl
 sum-same φ ψ (x ∷ l) each = omega (arith, each x (List·Memᴰ·head refl), sum-same φ ψ l (λ y m. each y (List·Memᴰ·tail m)))
 
+-- over images, and over the lists f x for each x
 pub sum-map : {A B : Type 0} (φ : B → ℕ) (f : A → B) (l : List A) → sumOver φ (map f l) ≡ sumOver (λ x. φ (f x)) l
 unfolding sumOver
 sum-map φ f [] = refl
@@ -74,6 +76,7 @@ unfolding sumOver flatMap
 sum-flat φ f [] = refl
 sum-flat φ f (x ∷ l) = omega (arith, sum-append φ (f x) (flatMap f l), sum-flat φ f l)
 
+-- weighed by 1 it is the length, and by whether a member is k how often k stands in it
 pub sum-length : {A : Type 0} (l : List A) → sumOver (λ x. 1) l ≡ length l
 unfolding sumOver
 sum-length [] = refl
@@ -89,6 +92,7 @@ pub record SameWeights {A : Type 0} (l m : List A) : Type 0 where
   pub same : (φ : A → ℕ) → sumOver φ l ≡ sumOver φ m
 
 module _ {A : Type 0} where
+  -- this is so of a list and itself, either way round, through a third, and of lists put together in any order
   pub same-refl : {l : List A} → SameWeights l l
   same-refl = record { same = λ φ. refl }
 
@@ -116,13 +120,15 @@ module _ {A : Type 0} where
   pub same-last : (before : List A) (x : A) (after : List A) → SameWeights (before ++ x ∷ after) ((before ++ after) ++ x ∷ [])
   same-last before x after = same-trans (same-first before x after) (same-swap (x ∷ []) (before ++ after))
 
-  -- one more and one less: l has the weights of x ∷ m
+  -- l has one more than m, which has one less: l has the weights of x ∷ m
   pub same-cons : (x : A) {l m : List A} → ((φ : A → ℕ) → sumOver φ l ≡ sumOver φ m + φ x) → SameWeights l (x ∷ m)
   same-cons x {l} {m} more = record { same = λ φ. omega (arith, more φ, sum-cons φ x m) }
 
+  -- they are equally long
   pub same-length : {l m : List A} → SameWeights l m → length l ≡ length m
   same-length {l} {m} s = omega (arith, s .same (λ x. 1), sum-length l, sum-length m)
 
+-- so are their images, and of numbers each stands equally often in both
 pub same-map : {A B : Type 0} (f : A → B) {l m : List A} → SameWeights l m → SameWeights (map f l) (map f m)
 same-map f {l} {m} s = record { same = λ φ. sum-map φ f l ∙ s .same (λ x. φ (f x)) ∙ sym (sum-map φ f m) }
 
@@ -149,46 +155,46 @@ module _ {A : Type 0} (d : Discrete A) where
       by (yes p) some = p
       by (no n) some = absurd (not-suc-le-zero some)
 
-  countOf : A → List A → ℕ
-  countOf x l = sumOver (λ y. oneIf (d x y)) l
+  howOften : A → List A → ℕ
+  howOften x l = sumOver (λ y. oneIf (d x y)) l
 
-  in-count : {x : A} {l : List A} → x ∈ l → 0 < countOf x l
-  unfolding countOf
+  in-count : {x : A} {l : List A} → x ∈ l → 0 < howOften x l
+  unfolding howOften
   in-count {x} m = omega (arith, sum-at-least (λ y. oneIf (d x y)) m, oneIf-same {x = x} refl)
 
-  count-in : {x : A} (l : List A) → 0 < countOf x l → x ∈ l
-  unfolding countOf
+  count-in : {x : A} (l : List A) → 0 < howOften x l → x ∈ l
+  unfolding howOften
   count-in {x} l some = let r = sum-some (λ y. oneIf (d x y)) l some in rw (oneIf-eq (r .2)) (r .1)
 
-  no-count : {x : A} (l : List A) → (x ∈ l → ⊥) → countOf x l ≡ 0
-  no-count {x} l none = by (ℕ-discrete (countOf x l) 0)
+  no-count : {x : A} (l : List A) → (x ∈ l → ⊥) → howOften x l ≡ 0
+  no-count {x} l none = by (ℕ-discrete (howOften x l) 0)
     where
-      by : Dec (countOf x l ≡ 0) → countOf x l ≡ 0
+      by : Dec (howOften x l ≡ 0) → howOften x l ≡ 0
       by (yes e) = e
       by (no ne) = absurd (none (count-in l (omega arith)))
 
-  count-cons : (x y : A) (l : List A) → countOf x (y ∷ l) ≡ oneIf (d x y) + countOf x l
-  unfolding countOf
+  count-cons : (x y : A) (l : List A) → howOften x (y ∷ l) ≡ oneIf (d x y) + howOften x l
+  unfolding howOften
   count-cons x y l = sum-cons (λ z. oneIf (d x z)) y l
 
-  no-repeat-count : {l : List A} → NoRepeat l → (x : A) → countOf x l ≤ 1
-  unfolding countOf sumOver
+  no-repeat-count : {l : List A} → NoRepeat l → (x : A) → howOften x l ≤ 1
+  unfolding howOften sumOver
   no-repeat-count no-repeat-none x = omega arith
   no-repeat-count (no-repeat-cons {x = y} {l} new once) x = by (no-repeat-count once x) (d x y)
     where
-      by : countOf x l ≤ 1 → (c : Dec (x ≡ y)) → oneIf c + countOf x l ≤ 1
+      by : howOften x l ≤ 1 → (c : Dec (x ≡ y)) → oneIf c + howOften x l ≤ 1
       by le (yes e) = omega (arith, no-count {x = x} l (rw (← e) at new))
       by le (no ne) = omega arith
 
-  count-no-repeat : (l : List A) → ((x : A) → countOf x l ≤ 1) → NoRepeat l
+  count-no-repeat : (l : List A) → ((x : A) → howOften x l ≤ 1) → NoRepeat l
   count-no-repeat [] le = no-repeat-none
   count-no-repeat (x ∷ l) le =
       no-repeat-cons
       (λ (m : x ∈ l). omega (arith, le x, in-count m, oneIf-same {x = x} refl, count-cons x x l))
       (count-no-repeat l (λ y. omega (arith, le y, count-cons y x l)))
 
-  same-count : {l m : List A} → SameWeights l m → (x : A) → countOf x l ≡ countOf x m
-  unfolding countOf
+  same-count : {l m : List A} → SameWeights l m → (x : A) → howOften x l ≡ howOften x m
+  unfolding howOften
   same-count s x = s .same (λ y. oneIf (d x y))
 
   -- lists with the same weights have the same members, and the one has no repeats where the other has none
@@ -223,6 +229,7 @@ visitsIn j N h es = times j (nodesIn N h es)
 abbrev pub Once : Nodes → ℕ → ℕ → Type 0
 Once N h i = (j : ℕ) → visits j N h i ≤ 1
 
+-- that is, none stands twice among the nodes reached
 pub once-no-repeat : (N : Nodes) (h i : ℕ) → Once N h i → NoRepeat (nodesOf N h i)
 once-no-repeat N h i once = times-no-repeat (nodesOf N h i) once
 
@@ -233,6 +240,7 @@ no-repeat-once N h i once = no-repeat-times once
 abbrev pub isNode : ℕ → ℕ → ℕ
 isNode j k = once-if (eqb j k)
 
+-- j is j; where it is 0 they differ, and the other way round; and it is at most 1
 pub is-self : (j : ℕ) → isNode j j ≡ 1
 is-self j = rw (eq-eqb j j refl)
 
@@ -242,6 +250,14 @@ is-other {j} {k} z e = omega (arith, is-self k, rw e at z)
 pub not-other : {j k : ℕ} → (j ≡ k → ⊥) → isNode j k ≡ 0
 not-other {j} {k} ne = rw (ne-eqb j k ne)
 
+pub is-most : (j k : ℕ) → isNode j k ≤ 1
+is-most j k = by (ℕ-discrete j k)
+  where
+    by : Dec (j ≡ k) → isNode j k ≤ 1
+    by (yes e) = rw e (omega (arith, is-self k))
+    by (no ne) = omega (arith, not-other ne)
+
+-- how often a node stands in a list, one more and none
 pub times-cons : (j k : ℕ) (l : List ℕ) → times j (k ∷ l) ≡ isNode j k + times j l
 unfolding times
 times-cons j k l = refl
@@ -269,9 +285,7 @@ sum-zero [] = refl
 sum-zero (x ∷ l) = omega (arith, sum-zero l)
 
 times-flat : {A : Type 0} (j : ℕ) (f : A → List ℕ) (l : List A) → times j (flatMap f l) ≡ sumOver (λ x. times j (f x)) l
-unfolding sumOver times flatMap
-times-flat j f [] = refl
-times-flat j f (x ∷ l) = omega (arith, times-append j (f x) (flatMap f l), times-flat j f l)
+times-flat j f l = sym (sum-times j (flatMap f l)) ∙ sum-flat (isNode j) f l ∙ sum-same (λ x. sumOver (isNode j) (f x)) (λ x. times j (f x)) l (λ x m. sum-times j (f x))
 
 module _ (N : Nodes) where
   weight-sum : (φ : Entry → ℕ) (h : ℕ) (es : List Entry) → weightIn φ N h es ≡ sumOver (entryWeight φ N h) es
@@ -351,6 +365,10 @@ module _ (N : Nodes) where
   pub visits-self : (h i : ℕ) → 0 < visits i N h i
   visits-self h i = omega (arith, visits-node i h i, is-self i)
 
+  -- none is met twice below a child, where none is below its parent
+  pub once-child : (h i : ℕ) {e : Entry} {rest : List Entry} → SameWeights (N i) (e ∷ rest) → Once N (suc h) i → Once N h (childOf e)
+  once-child h i {e} {rest} has once j = omega (arith, once j, visits-has j (suc h) i has, visits-child j h e rest)
+
 -- ---- two tables that agree on every node met through some entries
 abbrev pub AgreeIn : Nodes → Nodes → ℕ → List Entry → Type 0
 AgreeIn N N′ h es = (j : ℕ) → 0 < visitsIn j N h es → N′ j ≡ N j
@@ -392,3 +410,15 @@ pub sound-append : (N : Nodes) (cells : ℕ) (clock : ℤ) (h : ℕ) (es fs : Li
 unfolding SoundIn
 sound-append N cells clock zero es fs s t = λ e m. ⊎-elim (s e) (t e) (List·Memᴰ·append-cases es m)
 sound-append N cells clock (suc h) es fs s t = λ e m. ⊎-elim (s e) (t e) (List·Memᴰ·append-cases es m)
+
+-- a sound node that has the entries es, in any order
+pub sound-has : (N : Nodes) (cells : ℕ) (clock : ℤ) (h i : ℕ) {es : List Entry} → SameWeights (N i) es → TreeSound N cells clock h i → SoundIn N cells clock h es
+sound-has N cells clock h i has sound = sound-part N cells clock h (same-entries (same-sym has)) (sound-in N cells clock h i sound)
+
+-- of the first of some entries, and of the others
+pub sound-tail : (N : Nodes) (cells : ℕ) (clock : ℤ) (h : ℕ) (e : Entry) (es : List Entry) → SoundIn N cells clock h (e ∷ es) → SoundIn N cells clock h es
+sound-tail N cells clock h e es sound = sound-part N cells clock h (λ d m. List·Memᴰ·tail m) sound
+
+pub sound-head : (N : Nodes) (cells : ℕ) (clock : ℤ) (h : ℕ) (e : Entry) (es : List Entry) → SoundIn N cells clock (suc h) (e ∷ es) → EntrySound N cells clock h e × TreeSound N cells clock h (childOf e)
+unfolding SoundIn
+sound-head N cells clock h e es sound = sound e (List·Memᴰ·head refl)
