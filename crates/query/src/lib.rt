@@ -1,0 +1,2 @@
+// Queries of a table: which cells meet a rectangle, still or moving.
+pub mod answer;
