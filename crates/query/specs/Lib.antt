@@ -1,3 +1,5 @@
 pub mod Opened
 pub mod Hits
 pub mod Queried
+pub mod QueriedLaws
+pub mod Finding
