@@ -3,3 +3,4 @@ pub mod Hits
 pub mod Queried
 pub mod QueriedLaws
 pub mod Finding
+pub mod Opening
