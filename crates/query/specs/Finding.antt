@@ -114,5 +114,5 @@ module _ (N : Nodes) (k : Query) where
   opened-less zero i = omega (arith, flat-none ℕ (N i))
   opened-less (suc h) i =
       let less = flat-less (openedBy N k (suc h)) (λ e. nodesOf N h (childOf e)) length-adds
-              (λ e. omega (arith, only-less (entryMeets? k false e) length-adds (openedIn N k h (childOf e)), opened-less h (childOf e))) (N i) in
+      (λ e. omega (arith, only-less (entryMeets? k false e) length-adds (openedIn N k h (childOf e)), opened-less h (childOf e))) (N i) in
       omega arith

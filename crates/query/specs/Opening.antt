@@ -107,51 +107,58 @@ module _ (N : Nodes) (k : Query) where
     unfolding flatMap
     opened-length = ap (λ (js : List ℕ). length (js ++ openedFrom N k h ds)) (l .by-opened) ∙ length-append opened (openedFrom N k h ds)
 
-  -- ---- the ways through the code, and what each leaves
-  pub opens-none : (h : ℕ) (es : List Entry) (keys : List ℕ) (f : Found) → es ≡ [] → Opens N k h es keys f f keys
+-- ---- the ways through the code, and what each leaves
+module _ {N : Nodes} {k : Query} {h : ℕ} {es : List Entry} {keys : List ℕ} {f : Found} where
+  pub opens-none : es ≡ [] → Opens N k h es keys f f keys
   unfolding flatMap
-  opens-none h es keys f e = rw e (record { hits = omega arith; opened = omega arith; keys-kept = refl; gathered = sym (append-nil (take (f .hits) keys)) })
+  opens-none e = rw e (record { hits = omega arith; opened = omega arith; keys-kept = refl; gathered = sym (append-nil (take (f .hits) keys)) })
 
-  module _ (h : ℕ) (es ds : List Entry) (d : Entry) (e : es ≡ d ∷ ds) (keys : List ℕ) (f r : Found) (keys′ : List ℕ) where
+  module _ {d : Entry} {ds : List Entry} (e : es ≡ d ∷ ds) {r : Found} {keys′ : List ℕ} where
     pub opens-miss : (EntryMeets k (isLeaf h) d → ⊥) → Opens N k h ds keys f r keys′ → Opens N k h es keys f r keys′
     opens-miss n o =
-        let l = leads-nowhere h d n in
+        let l = leads-nowhere N k h d n in
         rw e (record {
-          hits = omega (arith, o .hits, found-length l ds);
-          opened = omega (arith, o .opened, opened-length l ds);
+          hits = omega (arith, o .hits, found-length N k l ds);
+          opened = omega (arith, o .opened, opened-length N k l ds);
           keys-kept = o .keys-kept;
-          gathered = o .gathered ∙ rw (found-cons l ds);
+          gathered = o .gathered ∙ rw (found-cons N k l ds);
         })
 
-    pub opens-hit : h ≡ 0 → EntryMeets k (isLeaf h) d → f .hits < length keys → Opens N k h ds (set keys (f .hits) (keyOf d)) (oneHit f) r keys′ → Opens N k h es keys f r keys′
-    opens-hit z m lt o =
-        let l = leads-cell h d z m in
+    -- the key v goes to the first place that is free
+    pub opens-hit : {v : ℕ} → v ≡ keyOf d → h ≡ 0 → EntryMeets k (isLeaf h) d → f .hits < length keys → Opens N k h ds (set keys (f .hits) v) (oneHit f) r keys′
+        → Opens N k h es keys f r keys′
+    opens-hit {v} is-key z m lt o =
+        let l = leads-cell N k h d z m in
         rw e (record {
-          hits = omega (arith, o .hits, found-length l ds);
-          opened = omega (arith, o .opened, opened-length l ds);
+          hits = omega (arith, o .hits, found-length N k l ds);
+          opened = omega (arith, o .opened, opened-length N k l ds);
           keys-kept = o .keys-kept ∙ simp length-set;
           gathered =
               o .gathered ∙
-              rw (found-cons l ds, add-one (f .hits), take-suc-set keys (f .hits) (keyOf d) lt)
+              rw (found-cons N k l ds, add-one (f .hits), take-suc-set keys (f .hits) v lt, is-key)
               (append-assoc (take (f .hits) keys) (keyOf d ∷ []) (map keyOf (foundFrom N k h ds)));
         })
 
-    pub opens-child : (g : Found) (keys₁ : List ℕ) → (h ≡ 0 → ⊥) → EntryMeets k (isLeaf h) d → Opens N k (h - 1) (N (childOf d)) keys (oneNode f) g keys₁
+    -- j is the child
+    pub opens-child : {j : ℕ} {g : Found} {keys₁ : List ℕ} → j ≡ childOf d → (h ≡ 0 → ⊥) → EntryMeets k (isLeaf h) d → Opens N k (h - 1) (N j) keys (oneNode f) g keys₁
         → Opens N k h ds keys₁ g r keys′ → Opens N k h es keys f r keys′
-    opens-child g keys₁ z m o q =
-        let l = leads-child h d z m in
-        rw e (record {
-          hits = omega (arith, o .hits, q .hits, found-length l ds);
-          opened = omega (arith, o .opened, q .opened, opened-length l ds);
-          keys-kept = q .keys-kept ∙ o .keys-kept;
-          gathered =
-              q .gathered ∙
-              rw (o .gathered, found-cons l ds, map-append)
-              (append-assoc (take (f .hits) keys) (map keyOf (foundFrom N k (h - 1) (N (childOf d)))) (map keyOf (foundFrom N k h ds)));
-        })
+    opens-child {j} {g} {keys₁} is-child z m o q = rw e (by (rw is-child at o))
+      where
+        by : Opens N k (h - 1) (N (childOf d)) keys (oneNode f) g keys₁ → Opens N k h (d ∷ ds) keys f r keys′
+        by o =
+            let l = leads-child N k h d z m in
+            record {
+              hits = omega (arith, o .hits, q .hits, found-length N k l ds);
+              opened = omega (arith, o .opened, q .opened, opened-length N k l ds);
+              keys-kept = q .keys-kept ∙ o .keys-kept;
+              gathered =
+                  q .gathered ∙
+                  rw (o .gathered, found-cons N k l ds, map-append)
+                  (append-assoc (take (f .hits) keys) (map keyOf (foundFrom N k (h - 1) (N (childOf d)))) (map keyOf (foundFrom N k h ds)));
+            }
 
 -- ---- and what each way needs
-module _ (w : List ℤ) (k : Query) (h i from : ℕ) (keys : List ℕ) (f : Found) (c : CanOpen w k h i from keys f) where
+module _ {w : List ℤ} {k : Query} {h i from : ℕ} {keys : List ℕ} {f : Found} (c : CanOpen w k h i from keys f) where
   abbrev entry : Entry
   entry = entryAt (nodeAt w i) from
 
@@ -230,15 +237,21 @@ module _ (w : List ℤ) (k : Query) (h i from : ℕ) (keys : List ℕ) (f : Foun
       pub node-fits : f .opened + 1 < 2 ^ 32
       node-fits = omega (arith, few-with _ _ leads)
 
-      pub can-child : CanOpen w k (h - 1) (childOf entry) 0 keys (oneNode f)
-      can-child = record {
-        query-in = c .query-in;
-        long-enough = c .long-enough;
-        in-table = node-in-table w (capacity w) (childOf entry) (childWord entry) (c .long-enough) (below .0 .child-in) refl;
-        tree = below .1;
-        room = omega (arith, room-with _ _ leads);
-        few-opened = omega (arith, few-with _ _ leads);
-      }
+      module _ {j : ℕ} (is-child : j ≡ childOf entry) where
+        pub can-child : CanOpen w k (h - 1) j 0 keys (oneNode f)
+        can-child =
+            rw is-child
+            (record {
+              query-in = c .query-in;
+              long-enough = c .long-enough;
+              in-table = node-in-table w (capacity w) (childOf entry) (childWord entry) (c .long-enough) (below .0 .child-in) refl;
+              tree = below .1;
+              room = omega (arith, room-with _ _ leads);
+              few-opened = omega (arith, few-with _ _ leads);
+            })
 
-      pub can-after : (g : Found) (keys₁ : List ℕ) → Opens (entriesAt w) k (h - 1) (entriesAt w (childOf entry)) keys (oneNode f) g keys₁ → CanOpen w k h i (from + 1) keys₁ g
-      can-after g keys₁ o = onward _ _ leads keys₁ g (o .keys-kept) (o .hits) (omega (arith, o .opened))
+        pub can-after : {g : Found} {keys₁ : List ℕ} → Opens (entriesAt w) k (h - 1) (entriesAt w j) keys (oneNode f) g keys₁ → CanOpen w k h i (from + 1) keys₁ g
+        can-after {g} {keys₁} o = by (rw is-child at o)
+          where
+            by : Opens (entriesAt w) k (h - 1) (entriesAt w (childOf entry)) keys (oneNode f) g keys₁ → CanOpen w k h i (from + 1) keys₁ g
+            by o = onward _ _ leads keys₁ g (o .keys-kept) (o .hits) (omega (arith, o .opened))

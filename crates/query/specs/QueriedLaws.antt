@@ -124,8 +124,7 @@ module _ {w : List ℤ} {B : Type 0} {k : Query} {list : List ℤ} where
         by (yes e) d =
             let a = p .accepted e in
             let b = q .accepted (sym number-fixed ∙ e) in
-            let same = hits-fixed (a .hits) (b .hits) in
-            (
+            let same = hits-fixed (a .hits) (b .hits) in (
               answer-same p q number-fixed (a .hit-count ∙ ap length same ∙ sym (b .hit-count)) (a .opened-count ∙ sym (b .opened-count)),
               a .written ∙ rw same (sym (b .written)),
             )

@@ -1,2 +1,3 @@
 // Queries of a table: which cells meet a rectangle, still or moving.
 pub mod answer;
+pub mod opening;
