@@ -1,5 +1,5 @@
 -- Laws of a node's entries, one by one and from one on.
-use mathlib.Core.Path.{_≡_, refl, sym, ap, _∙_}
+use mathlib.Core.Path.{_≡_, refl, ap, _∙_}
 use mathlib.Core.List.{List, [], _∷_, _++_}
 use Prim.Native.Nat.{ℕ, zero, suc, min, _+_, _<_, _≤_}
 use native.Mathlib.Nat.{not-suc-le-zero}
@@ -16,7 +16,7 @@ use Rattle.whole.specs.Tells.{Tells}
 use Rattle.words.specs.Layout.{entryAt, entryOffset, entryWords, fullNode}
 use Rattle.words.specs.Words.{natOf, rowsAt}
 use Rattle.words.specs.WordLaws.{rowsAt-in-part}
-use Rattle.node.specs.Entry.{Entry, firstOf, countWord, IsCount, countOf, entriesOf}
+use Rattle.node.specs.Entry.{firstOf, countWord, IsCount, countOf, entriesOf}
 
 -- ---- f 0, f 1, .. as many as n
 module _ {A : Type 0} (f : ℕ → A) where

@@ -1,8 +1,8 @@
 -- An edge or a velocity of a node's entries, gathered by one pass over them.
-use mathlib.Core.Path.{_≡_, refl, sym, ap, ap₂, _∙_}
+use mathlib.Core.Path.{_≡_, refl, sym, ap}
 use mathlib.Core.Bool.{Bool, true, false, cond}
 use mathlib.Core.List.{List, [], _∷_, map, map-map}
-use Prim.Native.Nat.{ℕ, suc, _+_, _%_, _≤_, _<_, _^_}
+use Prim.Native.Nat.{ℕ, _+_, _%_, _≤_, _<_}
 use native.Mathlib.Omega.{arith}
 use lib.Dec.{ltb, eqb}
 use lib.IntN.{ℤ, pos, _+ℤ_, _-ℤ_, _*ℤ_}
@@ -15,7 +15,7 @@ use Rattle.words.specs.Layout.{entryAt}
 use Rattle.track.specs.Meets.{Row}
 use Rattle.track.specs.Hull.{lesser, greater, picked}
 use Rattle.node.specs.Entry.{Entry, countOf, entriesOf, untilOf}
-use Rattle.node.specs.EntryLaws.{entries-from, entries-next, entries-end, length-entriesOf}
+use Rattle.node.specs.EntryLaws.{entries-from, entries-next, entries-end}
 use Rattle.node.specs.WorkedOut.{rowOf, hullOn, latestOf}
 
 -- ---- what is gathered

@@ -1,16 +1,18 @@
 // An inner entry worked out from its child at a minute, the stamp. In i64, so that any words of a child are taken.
 use crate::entry::bounds;
 use crate::entry::count;
+use crate::entry::stamp;
 use crate::entry::until;
 use whole::wide;
 ghost use mathlib.Core.Path.{_≡_};
 ghost use Prim.Native.Nat.{_<_, _^_};
+ghost use Rattle.whole.specs.Tells.{Tells};
 ghost use Rattle.whole.specs.Within.{Within};
 ghost use Rattle.words.specs.Layout.{entryAt, fullNode};
 ghost use Rattle.track.specs.Numbers.{IsMinute};
 ghost use Rattle.track.specs.Hull.{greater};
-ghost use Rattle.node.specs.Entry.{entriesOf};
-ghost use Rattle.node.specs.WorkedOut.{hullOn, latestOf};
+ghost use Rattle.node.specs.Entry.{entriesOf, stampOf};
+ghost use Rattle.node.specs.WorkedOut.{hullOn, latestOf, WorkedOut};
 ghost use Rattle.node.specs.Pass.{columnAt, outer, readingOf, extremeOf};
 
 // A column of a row at a minute: 0 and 1 the low and the high edge then, 2 and 3 the low and the high velocity.
@@ -85,4 +87,50 @@ pub fn latest(node: &[i32], leaf: bool) -> i32
         k += 1;
     }
     found
+}
+
+// The row of all entries on an axis: velocities the least low and the greatest high one, edges the least and the greatest at the stamp,
+// kept at minute 0.
+pub fn worked_row(node: &[i32], leaf: bool, axis: usize, stamp: i32) -> [i64; 4]
+    requires { ⌜ (axis < 2) × (IsMinute stamp) ⌝ }
+    ensures { λ r. ⌜ r ≡ hullOn leaf axis stamp (entriesOf (now (node .entry))) ⌝ }
+{
+    let minute = wide(stamp);
+    let lowest = extreme(node, leaf, axis, 2, stamp);
+    let highest = extreme(node, leaf, axis, 3, stamp);
+    [
+        extreme(node, leaf, axis, 0, stamp) - lowest * minute,
+        extreme(node, leaf, axis, 1, stamp) - highest * minute,
+        lowest,
+        highest,
+    ]
+}
+
+fn same_row(a: [i32; 4], b: [i64; 4]) -> bool
+    ensures { λ r. ⌜ Tells r (a ≡ b) ⌝ }
+{
+    let mut j = 0;
+    while j < 4 {
+        if wide(a[j]) != b[j] {
+            return false;
+        }
+        j += 1;
+    }
+    true
+}
+
+// Whether the parent's entry k is what the child comes to at the entry's stamp.
+pub fn is_worked_out(parent: &[i32], k: usize, child: &[i32], leaf: bool) -> bool
+    requires { ⌜ (k < fullNode) × (IsMinute (stampOf (entryAt (now parent) k))) ⌝ }
+    ensures { λ r. ⌜ Tells r (WorkedOut leaf (entryAt (now (parent .entry)) k) (entriesOf (now (child .entry)))) ⌝ }
+{
+    let minute = stamp(parent, k);
+    let b = bounds(parent, k, false);
+    if !same_row(b[0], worked_row(child, leaf, 0, minute)) {
+        return false;
+    }
+    if !same_row(b[1], worked_row(child, leaf, 1, minute)) {
+        return false;
+    }
+    until(parent, k, false) == latest(child, leaf)
 }

@@ -1,5 +1,5 @@
 -- The pruning law: where a cell meets a query that does not start before the clock, every entry above the cell meets it at the same instant.
-use mathlib.Core.Path.{_≡_, refl}
+use mathlib.Core.Path.{refl}
 use mathlib.Core.Bool.{Bool, true, false}
 use mathlib.Core.List.{List, [], _∷_, List·Memᴰ·not-nil, Memᴰ·map}
 use Prim.Native.Nat.{ℕ, zero, suc}
@@ -61,6 +61,7 @@ module _ (N : Nodes) (cells : ℕ) (clock : ℤ) (k : Query) (due : clock ≤ℤ
       let u = tree (g .0) (g .1) in
       entry-covers (s .worked-out) (g .1) (≤ℤ-trans (s .stamped) due) (below-covers h (u .0) (u .1) (g .2) met)
 
+  -- the same of an entry of a sound inner node
   pub covers : (h i : ℕ) {e f : Entry} {t : Instant} → TreeSound N cells clock (suc h) i → e ∈ N i → f ∈ leavesOf N h (childOf e)
       → MeetsAt (boundsOf true f) (untilOf true f) k t → MeetsAt (boundsOf false e) (untilOf false e) k t
   unfolding TreeSound

@@ -5,6 +5,8 @@ pub mod HeaderLaws
 pub mod Reach
 pub mod Covers
 pub mod EdgesLaw
+pub mod Counts
+pub mod Frame
 pub mod ScanParts
 pub mod Scan
 pub mod SoundBy

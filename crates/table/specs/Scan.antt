@@ -2,6 +2,7 @@
 -- `es` are entries of a node that has h levels beneath it; `marks` tells for each node whether it was met; m identifiers are gathered.
 use mathlib.Core.Path.{_≡_, refl, sym, ap, _∙_}
 use mathlib.Core.Logic.{_⊎_, inl, inr, ⊎-elim}
+use mathlib.Core.Bool.{Bool, true, false}
 use mathlib.Core.List.{List, [], _∷_, _++_, map, map-append, flatMap, List·Memᴰ·head, List·Memᴰ·tail, List·Memᴰ·cases-cons, List·Memᴰ·not-nil, List·Memᴰ·append-cases, Memᴰ·append-left, Memᴰ·append-right, append-assoc, append-nil}
 use Prim.Native.Nat.{ℕ, zero, suc, _+_, _-_, _≤_, _<_}
 use native.Mathlib.Decide.{ℕ-discrete}
@@ -14,9 +15,10 @@ use lib.Seq.{getD-set-same, getD-set-other, take-suc-set}
 use borrow.Author.Tests.{eq-eqb, ne-eqb}
 use Rattle.whole.specs.Lists.{_∈_}
 use Rattle.whole.specs.Times.{times, once-if, times-append}
+use Rattle.words.specs.Layout.{nodeAt}
 use Rattle.words.specs.Words.{natOf}
 use Rattle.track.specs.Small.{CellInRange}
-use Rattle.node.specs.Entry.{Entry, cellOf, childOf}
+use Rattle.node.specs.Entry.{Entry, cellOf, childOf, countWord, IsCount}
 use Rattle.table.specs.Header.{nodesFor}
 use Rattle.table.specs.Tree.{Nodes, leavesOf, nodesOf, EntrySound, TreeSound}
 use Rattle.table.specs.declared.scan.Scan.{Scan}
@@ -59,11 +61,39 @@ in-sound N cells clock (suc h) i s = s
 abbrev pub keyOf : Entry → ℕ
 keyOf e = natOf (cellOf e .id)
 
+-- node j's first word is a count
+abbrev pub Counted : List ℤ → ℕ → Type 0
+Counted w j = IsCount (countWord (nodeAt w j))
+
+-- ---- what is tested of one entry, and what is left
+pub record Taken (cells : ℕ) (e : Entry) (keys : List ℕ) (m : ℕ) (r : Bool) (keys′ : List ℕ) : Type 0 where
+  pub taken : r ≡ true → CellInRange (cellOf e) × (m < cells) × (keys′ ≡ set keys m (keyOf e))
+  pub refused : r ≡ false → (CellInRange (cellOf e) → m < cells → ⊥) × (keys′ ≡ keys)
+
+pub record Entered (N : Nodes) (C : ℕ → Type 0) (cells : ℕ) (clock : ℤ) (h : ℕ) (e : Entry) (marks : List ℕ) (r : Bool) (marks′ : List ℕ) : Type 0 where
+  pub entered : r ≡ true → EntrySound N cells clock h e × C (childOf e) × (getD marks (childOf e) 0 ≡ 0) × (marks′ ≡ set marks (childOf e) 1)
+  pub refused : r ≡ false → (EntrySound N cells clock h e → C (childOf e) → getD marks (childOf e) 0 ≡ 0 → ⊥) × (marks′ ≡ marks)
+
+true-false : true ≡ false → ⊥
+true-false e = let z : _≡_ {A = ℕ} 0 1 = cc in omega arith
+
+pub taken-yes : {cells : ℕ} {e : Entry} {keys : List ℕ} {m : ℕ} {keys′ : List ℕ} → CellInRange (cellOf e) → m < cells → keys′ ≡ set keys m (keyOf e) → Taken cells e keys m true keys′
+taken-yes c lt k = record { taken = λ t. (c, lt, k); refused = λ f. absurd (true-false f) }
+
+pub taken-no : {cells : ℕ} {e : Entry} {keys : List ℕ} {m : ℕ} {keys′ : List ℕ} → (CellInRange (cellOf e) → m < cells → ⊥) → keys′ ≡ keys → Taken cells e keys m false keys′
+taken-no n k = record { taken = λ t. absurd (true-false (sym t)); refused = λ f. (n, k) }
+
+module _ {N : Nodes} {C : ℕ → Type 0} {cells : ℕ} {clock : ℤ} {h : ℕ} {e : Entry} {marks marks′ : List ℕ} where
+  pub entered-yes : EntrySound N cells clock h e → C (childOf e) → getD marks (childOf e) 0 ≡ 0 → marks′ ≡ set marks (childOf e) 1 → Entered N C cells clock h e marks true marks′
+  entered-yes s c z k = record { entered = λ t. (s, c, z, k); refused = λ f. absurd (true-false f) }
+
+  pub entered-no : (EntrySound N cells clock h e → C (childOf e) → getD marks (childOf e) 0 ≡ 0 → ⊥) → marks′ ≡ marks → Entered N C cells clock h e marks false marks′
+  entered-no n k = record { entered = λ t. absurd (true-false (sym t)); refused = λ f. (n, k) }
+
 -- ---- what is tested of the entries es, and what a pass leaves
--- counted j: node j's first word is a count
-pub record Passes (N : Nodes) (Counted : ℕ → Type 0) (cells : ℕ) (clock : ℤ) (h : ℕ) (es : List Entry) (marks : List ℕ) (m : ℕ) : Type 0 where
+pub record Passes (N : Nodes) (C : ℕ → Type 0) (cells : ℕ) (clock : ℤ) (h : ℕ) (es : List Entry) (marks : List ℕ) (m : ℕ) : Type 0 where
   pub sound : SoundIn N cells clock h es
-  pub counted : (j : ℕ) → j ∈ nodesIn N h es → Counted j
+  pub counted : (j : ℕ) → j ∈ nodesIn N h es → C j
   pub once : (j : ℕ) → getD marks j 0 + times j (nodesIn N h es) ≤ 1
   pub room : m + length (leavesIn N h es) ≤ cells
 
@@ -72,12 +102,12 @@ pub record Leaves (N : Nodes) (h : ℕ) (es : List Entry) (marks keys : List ℕ
   pub marked : (j : ℕ) → getD marks′ j 0 ≡ getD marks j 0 + times j (nodesIn N h es)
   pub gathered : take m′ keys′ ≡ take m keys ++ map keyOf (leavesIn N h es)
 
-module _ (N : Nodes) (Counted : ℕ → Type 0) (cells : ℕ) (clock : ℤ) where
+module _ (N : Nodes) (C : ℕ → Type 0) (cells : ℕ) (clock : ℤ) where
   pub record Outcome (h : ℕ) (es : List Entry) (marks keys : List ℕ) (m : ℕ) (r : Scan) (marks′ keys′ : List ℕ) : Type 0 where
     pub marks-kept : length marks′ ≡ length marks
     pub keys-kept : length keys′ ≡ length keys
-    pub pass : (m′ : ℕ) → r ≡ Passed m′ → Passes N Counted cells clock h es marks m × Leaves N h es marks keys m m′ marks′ keys′
-    pub fail : r ≡ Bad → Passes N Counted cells clock h es marks m → ⊥
+    pub pass : (m′ : ℕ) → r ≡ Passed m′ → Passes N C cells clock h es marks m × Leaves N h es marks keys m m′ marks′ keys′
+    pub fail : r ≡ Bad → Passes N C cells clock h es marks m → ⊥
 
 -- ---- one entry more
 module _ (N : Nodes) where
@@ -129,16 +159,16 @@ inner-leaves N h e es marks keys m lt z m₁ marks₁ keys₁ l m′ marks′ ke
 }
 
 -- ---- the ways through the code
-module _ {N : Nodes} {Counted : ℕ → Type 0} {cells : ℕ} {clock : ℤ} where
+module _ {N : Nodes} {C : ℕ → Type 0} {cells : ℕ} {clock : ℤ} where
   bad : {h : ℕ} {es : List Entry} {marks keys marks′ keys′ : List ℕ} {m : ℕ} → length marks′ ≡ length marks → length keys′ ≡ length keys
-      → (Passes N Counted cells clock h es marks m → ⊥) → Outcome N Counted cells clock h es marks keys m Bad marks′ keys′
+      → (Passes N C cells clock h es marks m → ⊥) → Outcome N C cells clock h es marks keys m Bad marks′ keys′
   bad a b f = record { marks-kept = a; keys-kept = b; pass = λ m′ e. absurd (not-passed m′ e); fail = λ e. f }
     where
       not-passed : (m′ : ℕ) → Bad ≡ Passed m′ → ⊥
       not-passed m′ e = let z : _≡_ {A = ℕ} 0 1 = cc in omega arith
 
   pub way-none : (h : ℕ) (es : List Entry) (marks keys : List ℕ) (m : ℕ) → es ≡ [] → ((j : ℕ) → getD marks j 0 ≤ 1) → m ≤ cells
-      → Outcome N Counted cells clock h es marks keys m (Passed m) marks keys
+      → Outcome N C cells clock h es marks keys m (Passed m) marks keys
   unfolding SoundIn leavesIn nodesIn flatMap times
   way-none h es marks keys m e low few = record {
     marks-kept = refl;
@@ -177,15 +207,15 @@ module _ {N : Nodes} {Counted : ℕ → Type 0} {cells : ℕ} {clock : ℤ} wher
 
   -- ---- a leaf's entry
   module _ (e : Entry) (es : List Entry) (marks keys : List ℕ) (m : ℕ) where
-    leaf-head : Passes N Counted cells clock zero (e ∷ es) marks m → CellInRange (cellOf e)
+    leaf-head : Passes N C cells clock zero (e ∷ es) marks m → CellInRange (cellOf e)
     unfolding SoundIn
     leaf-head p = p .sound e (List·Memᴰ·head refl)
 
-    leaf-room : Passes N Counted cells clock zero (e ∷ es) marks m → m < cells
+    leaf-room : Passes N C cells clock zero (e ∷ es) marks m → m < cells
     unfolding leavesIn
     leaf-room p = omega (arith, p .room)
 
-    leaf-rest : Passes N Counted cells clock zero (e ∷ es) marks m → Passes N Counted cells clock zero es marks (m + 1)
+    leaf-rest : Passes N C cells clock zero (e ∷ es) marks m → Passes N C cells clock zero es marks (m + 1)
     unfolding SoundIn leavesIn nodesIn
     leaf-rest p = record {
       sound = λ d i. p .sound d (List·Memᴰ·tail i);
@@ -194,7 +224,7 @@ module _ {N : Nodes} {Counted : ℕ → Type 0} {cells : ℕ} {clock : ℤ} wher
       room = omega (arith, p .room);
     }
 
-    leaf-more : CellInRange (cellOf e) → Passes N Counted cells clock zero es marks (m + 1) → Passes N Counted cells clock zero (e ∷ es) marks m
+    leaf-more : CellInRange (cellOf e) → Passes N C cells clock zero es marks (m + 1) → Passes N C cells clock zero (e ∷ es) marks m
     unfolding SoundIn leavesIn nodesIn
     leaf-more c p = record {
       sound = λ d i. ⊎-elim (λ q. rw q c) (p .sound d) (List·Memᴰ·cases-cons i);
@@ -204,18 +234,18 @@ module _ {N : Nodes} {Counted : ℕ → Type 0} {cells : ℕ} {clock : ℤ} wher
     }
 
   pub way-cell-bad : (h : ℕ) (d : Entry) (es ds : List Entry) (marks keys : List ℕ) (m : ℕ) → h ≡ 0 → es ≡ d ∷ ds → (CellInRange (cellOf d) → ⊥)
-      → Outcome N Counted cells clock h es marks keys m Bad marks keys
+      → Outcome N C cells clock h es marks keys m Bad marks keys
   way-cell-bad h d es ds marks keys m z e f = rw (z, e) (bad refl refl (λ p. f (leaf-head d ds marks keys m p)))
 
   pub way-full : (h : ℕ) (d : Entry) (es ds : List Entry) (marks keys : List ℕ) (m : ℕ) → h ≡ 0 → es ≡ d ∷ ds → cells ≤ m
-      → Outcome N Counted cells clock h es marks keys m Bad marks keys
+      → Outcome N C cells clock h es marks keys m Bad marks keys
   way-full h d es ds marks keys m z e f = rw (z, e) (bad refl refl (λ p. omega (arith, leaf-room d ds marks keys m p)))
 
   pub way-cell : (h : ℕ) (d : Entry) (es ds : List Entry) (marks keys : List ℕ) (m : ℕ) (r : Scan) (marks′ keys′ : List ℕ) → h ≡ 0 → es ≡ d ∷ ds → CellInRange (cellOf d) → m < length keys
-      → Outcome N Counted cells clock h ds marks (set keys m (keyOf d)) (m + 1) r marks′ keys′ → Outcome N Counted cells clock h es marks keys m r marks′ keys′
+      → Outcome N C cells clock h ds marks (set keys m (keyOf d)) (m + 1) r marks′ keys′ → Outcome N C cells clock h es marks keys m r marks′ keys′
   way-cell h d es ds marks keys m r marks′ keys′ z e c lt o = rw (z, e) (by (rw z at o))
     where
-      by : Outcome N Counted cells clock zero ds marks (set keys m (keyOf d)) (m + 1) r marks′ keys′ → Outcome N Counted cells clock zero (d ∷ ds) marks keys m r marks′ keys′
+      by : Outcome N C cells clock zero ds marks (set keys m (keyOf d)) (m + 1) r marks′ keys′ → Outcome N C cells clock zero (d ∷ ds) marks keys m r marks′ keys′
       by o = record {
         marks-kept = o .marks-kept;
         keys-kept = o .keys-kept ∙ simp length-set;
@@ -225,17 +255,17 @@ module _ {N : Nodes} {Counted : ℕ → Type 0} {cells : ℕ} {clock : ℤ} wher
 
   -- ---- an inner entry, and its child
   module _ (h : ℕ) (e : Entry) (es : List Entry) (marks keys : List ℕ) (m : ℕ) where
-    inner-head : Passes N Counted cells clock (suc h) (e ∷ es) marks m → EntrySound N cells clock h e
+    inner-head : Passes N C cells clock (suc h) (e ∷ es) marks m → EntrySound N cells clock h e
     unfolding SoundIn
     inner-head p = p .sound e (List·Memᴰ·head refl) .0
 
-    inner-counted : Passes N Counted cells clock (suc h) (e ∷ es) marks m → Counted (childOf e)
+    inner-counted : Passes N C cells clock (suc h) (e ∷ es) marks m → C (childOf e)
     inner-counted p = p .counted (childOf e) (rw (nodes-cons N h e es) (Memᴰ·append-left (nodesIn N (suc h) es) (List·Memᴰ·head {xs = nodesIn N h (N (childOf e))} refl)))
 
-    inner-new : Passes N Counted cells clock (suc h) (e ∷ es) marks m → getD marks (childOf e) 0 ≡ 0
+    inner-new : Passes N C cells clock (suc h) (e ∷ es) marks m → getD marks (childOf e) 0 ≡ 0
     inner-new p = omega (arith, p .once (childOf e), nodes-times N h e es (childOf e), ap once-if (eq-eqb (childOf e) (childOf e) refl))
 
-    inner-child : childOf e < length marks → getD marks (childOf e) 0 ≡ 0 → Passes N Counted cells clock (suc h) (e ∷ es) marks m → Passes N Counted cells clock h (N (childOf e)) (set marks (childOf e) 1) m
+    inner-child : childOf e < length marks → getD marks (childOf e) 0 ≡ 0 → Passes N C cells clock (suc h) (e ∷ es) marks m → Passes N C cells clock h (N (childOf e)) (set marks (childOf e) 1) m
     unfolding SoundIn
     inner-child lt z p = record {
       sound = sound-in N cells clock h (childOf e) (p .sound e (List·Memᴰ·head refl) .1);
@@ -245,7 +275,7 @@ module _ {N : Nodes} {Counted : ℕ → Type 0} {cells : ℕ} {clock : ℤ} wher
     }
 
     module _ (lt : childOf e < length marks) (z : getD marks (childOf e) 0 ≡ 0) (m₁ : ℕ) (marks₁ keys₁ : List ℕ) (l : Leaves N h (N (childOf e)) (set marks (childOf e) 1) keys m m₁ marks₁ keys₁) where
-      inner-rest : Passes N Counted cells clock (suc h) (e ∷ es) marks m → Passes N Counted cells clock (suc h) es marks₁ m₁
+      inner-rest : Passes N C cells clock (suc h) (e ∷ es) marks m → Passes N C cells clock (suc h) es marks₁ m₁
       unfolding SoundIn
       inner-rest p = record {
         sound = λ d i. p .sound d (List·Memᴰ·tail i);
@@ -254,8 +284,8 @@ module _ {N : Nodes} {Counted : ℕ → Type 0} {cells : ℕ} {clock : ℤ} wher
         room = omega (arith, p .room, leaves-length N h e es, l .more);
       }
 
-      inner-more : EntrySound N cells clock h e → Counted (childOf e) → Passes N Counted cells clock h (N (childOf e)) (set marks (childOf e) 1) m → Passes N Counted cells clock (suc h) es marks₁ m₁
-          → Passes N Counted cells clock (suc h) (e ∷ es) marks m
+      inner-more : EntrySound N cells clock h e → C (childOf e) → Passes N C cells clock h (N (childOf e)) (set marks (childOf e) 1) m → Passes N C cells clock (suc h) es marks₁ m₁
+          → Passes N C cells clock (suc h) (e ∷ es) marks m
       unfolding SoundIn
       inner-more s c p q = record {
         sound = λ d i. ⊎-elim (λ f. rw f (s, in-sound N cells clock h (childOf e) (p .sound))) (q .sound d) (List·Memᴰ·cases-cons i);
@@ -266,36 +296,36 @@ module _ {N : Nodes} {Counted : ℕ → Type 0} {cells : ℕ} {clock : ℤ} wher
 
   -- in the code's words: the height is not 0, and the child's is one less
   pub way-entry-bad : (h : ℕ) (d : Entry) (es ds : List Entry) (marks keys : List ℕ) (m : ℕ) → (h ≡ 0 → ⊥) → es ≡ d ∷ ds → (EntrySound N cells clock (h - 1) d → ⊥)
-      → Outcome N Counted cells clock h es marks keys m Bad marks keys
+      → Outcome N C cells clock h es marks keys m Bad marks keys
   way-entry-bad zero d es ds marks keys m z e f = absurd (z refl)
   way-entry-bad (suc h) d es ds marks keys m z e f = rw e (bad refl refl (λ p. f (rw (sub-one (suc h)) (inner-head h d ds marks keys m p))))
 
-  pub way-uncounted : (h : ℕ) (d : Entry) (es ds : List Entry) (marks keys : List ℕ) (m : ℕ) → (h ≡ 0 → ⊥) → es ≡ d ∷ ds → (Counted (childOf d) → ⊥)
-      → Outcome N Counted cells clock h es marks keys m Bad marks keys
+  pub way-uncounted : (h : ℕ) (d : Entry) (es ds : List Entry) (marks keys : List ℕ) (m : ℕ) → (h ≡ 0 → ⊥) → es ≡ d ∷ ds → (C (childOf d) → ⊥)
+      → Outcome N C cells clock h es marks keys m Bad marks keys
   way-uncounted zero d es ds marks keys m z e f = absurd (z refl)
   way-uncounted (suc h) d es ds marks keys m z e f = rw e (bad refl refl (λ p. f (inner-counted h d ds marks keys m p)))
 
   pub way-met : (h : ℕ) (d : Entry) (es ds : List Entry) (marks keys : List ℕ) (m : ℕ) → (h ≡ 0 → ⊥) → es ≡ d ∷ ds → (getD marks (childOf d) 0 ≡ 0 → ⊥)
-      → Outcome N Counted cells clock h es marks keys m Bad marks keys
+      → Outcome N C cells clock h es marks keys m Bad marks keys
   way-met zero d es ds marks keys m z e f = absurd (z refl)
   way-met (suc h) d es ds marks keys m z e f = rw e (bad refl refl (λ p. f (inner-new h d ds marks keys m p)))
 
   pub way-child-bad : (h : ℕ) (d : Entry) (es ds : List Entry) (marks keys : List ℕ) (m : ℕ) (marks′ keys′ : List ℕ) → (h ≡ 0 → ⊥) → es ≡ d ∷ ds → childOf d < length marks → getD marks (childOf d) 0 ≡ 0
-      → Outcome N Counted cells clock (h - 1) (N (childOf d)) (set marks (childOf d) 1) keys m Bad marks′ keys′ → Outcome N Counted cells clock h es marks keys m Bad marks′ keys′
+      → Outcome N C cells clock (h - 1) (N (childOf d)) (set marks (childOf d) 1) keys m Bad marks′ keys′ → Outcome N C cells clock h es marks keys m Bad marks′ keys′
   way-child-bad zero d es ds marks keys m marks′ keys′ z e lt new o = absurd (z refl)
   way-child-bad (suc h) d es ds marks keys m marks′ keys′ z e lt new o =
       let c = rw (sub-one (suc h)) at o in
       rw e (bad (c .marks-kept ∙ simp length-set) (c .keys-kept) (λ p. c .fail refl (inner-child h d ds marks keys m lt new p)))
 
   pub way-child : (h : ℕ) (d : Entry) (es ds : List Entry) (marks keys : List ℕ) (m m₁ : ℕ) (marks₁ keys₁ : List ℕ) (r : Scan) (marks′ keys′ : List ℕ) → (h ≡ 0 → ⊥) → es ≡ d ∷ ds
-      → EntrySound N cells clock (h - 1) d → Counted (childOf d) → childOf d < length marks → getD marks (childOf d) 0 ≡ 0
-      → Outcome N Counted cells clock (h - 1) (N (childOf d)) (set marks (childOf d) 1) keys m (Passed m₁) marks₁ keys₁
-      → Outcome N Counted cells clock h ds marks₁ keys₁ m₁ r marks′ keys′
-      → Outcome N Counted cells clock h es marks keys m r marks′ keys′
+      → EntrySound N cells clock (h - 1) d → C (childOf d) → childOf d < length marks → getD marks (childOf d) 0 ≡ 0
+      → Outcome N C cells clock (h - 1) (N (childOf d)) (set marks (childOf d) 1) keys m (Passed m₁) marks₁ keys₁
+      → Outcome N C cells clock h ds marks₁ keys₁ m₁ r marks′ keys′
+      → Outcome N C cells clock h es marks keys m r marks′ keys′
   way-child zero d es ds marks keys m m₁ marks₁ keys₁ r marks′ keys′ z e s c lt new o q = absurd (z refl)
   way-child (suc h) d es ds marks keys m m₁ marks₁ keys₁ r marks′ keys′ z e s c lt new o q = rw e (by (rw (sub-one (suc h)) at s) (rw (sub-one (suc h)) at o))
     where
-      by : EntrySound N cells clock h d → Outcome N Counted cells clock h (N (childOf d)) (set marks (childOf d) 1) keys m (Passed m₁) marks₁ keys₁ → Outcome N Counted cells clock (suc h) (d ∷ ds) marks keys m r marks′ keys′
+      by : EntrySound N cells clock h d → Outcome N C cells clock h (N (childOf d)) (set marks (childOf d) 1) keys m (Passed m₁) marks₁ keys₁ → Outcome N C cells clock (suc h) (d ∷ ds) marks keys m r marks′ keys′
       by s o =
           let p = o .pass m₁ refl in
           record {

@@ -5,7 +5,8 @@ use Prim.Native.Nat.{ℕ, zero, suc, _+_, _≤_, _<_}
 use native.Mathlib.Omega.{arith}
 use native.Mathlib.Nat.{not-suc-le-zero}
 use borrow.Author.Count.{below-more}
-use lib.Dec.{ltb, ltb→lt, leb, leb→le, le→leb}
+use borrow.Author.Tests.{ne-eqb}
+use lib.Dec.{eqb, ltb, ltb→lt, leb, leb→le, le→leb}
 use lib.IntN.{ℤ, pos}
 use lib.ListN.{length, getD}
 use lib.Signed.{_≤ℤ_, _<ℤ_, clashℤ}
@@ -107,3 +108,11 @@ child-tells w cells e c i k = record {
 -- a node of the table lies in its words
 pub node-in-table : (w : List ℤ) (cells n : ℕ) (z : ℤ) → wordsFor cells ≤ length w → IsNode cells z → n ≡ natOf z → InTable w n
 node-in-table w cells n z long i e = omega (arith, node-below i)
+
+-- a child with no level beneath it is a leaf
+pub leaf-test : (below : ℕ) → eqb below 0 ≡ isLeaf below
+leaf-test zero = refl
+leaf-test (suc h) = ne-eqb (suc h) 0 not-zero
+  where
+    not-zero : suc h ≡ 0 → ⊥
+    not-zero e = omega arith

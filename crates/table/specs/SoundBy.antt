@@ -4,6 +4,8 @@ use mathlib.Core.Logic.{_⊎_, inl, inr, ⊎-elim}
 use mathlib.Core.List.{List, [], _∷_, _++_, map, flatMap, List·Memᴰ·head, List·Memᴰ·tail, List·Memᴰ·cases-cons, List·Memᴰ·append-cases, List·Memᴰ·not-nil, Memᴰ·map, Memᴰ·of-map}
 use Prim.Native.Nat.{ℕ, zero, suc, _+_, _≤_, _<_}
 use native.Mathlib.Decide.{ℕ-discrete}
+use native.Mathlib.Nat.{not-suc-le-zero}
+use borrow.Author.Count.{below-more}
 use native.Mathlib.Omega.{arith}
 use lib.Dec.{eqb}
 use lib.IntN.{ℤ, pos}
@@ -23,7 +25,7 @@ use Rattle.table.specs.Tree.{Nodes, leavesOf, nodesOf, EntrySound, TreeS
 use Rattle.table.specs.Reach.{flat-in}
 use Rattle.table.specs.Sound.{reached, held, identifier, Sound}
 use Rattle.table.specs.ScanParts.{node-below}
-use Rattle.table.specs.Scan.{leavesIn, nodesIn, SoundIn, leaves-in, nodes-in, sound-in, in-sound, keyOf, Passes, Leaves, mark-put}
+use Rattle.table.specs.Scan.{leavesIn, nodesIn, SoundIn, leaves-in, nodes-in, sound-in, in-sound, keyOf, Counted, Passes, Leaves}
 
 -- ---- what the header tells
 pub record HeaderSound (w : List ℤ) : Type 0 where
@@ -36,9 +38,6 @@ pub record HeaderSound (w : List ℤ) : Type 0 where
 pub record RootSound (w : List ℤ) : Type 0 where
   pub counted : IsCount (countWord (nodeAt w (root w)))
   pub filled : 0 < height w → 2 ≤ length (entriesAt w (root w))
-
-abbrev pub Counted : List ℤ → ℕ → Type 0
-Counted w j = IsCount (countWord (nodeAt w j))
 
 -- ---- what is reached is in range
 module _ (N : Nodes) (cells : ℕ) (clock : ℤ) where
@@ -124,8 +123,21 @@ module _ (w : List ℤ) where
       }
 
   -- ---- what a pass leaves to test
-  pub record RestFree (marks : List ℕ) : Type 0 where
-    pub free : (i : ℕ) → i < nodesFor (capacity w) → getD marks i 0 ≡ 0 → countWord (nodeAt w i) ≡ pos 0
+  -- a node without a mark is free
+  abbrev pub FreeUnless : ℕ → ℕ → Type 0
+  FreeUnless mark i = mark ≡ 0 → countWord (nodeAt w i) ≡ pos 0
+
+  pub record FreeTo (marks : List ℕ) (n : ℕ) : Type 0 where
+    pub free : (i : ℕ) → i < n → FreeUnless (getD marks i 0) i
+
+  abbrev pub RestFree : List ℕ → Type 0
+  RestFree marks = FreeTo marks (nodesFor (capacity w))
+
+  pub free-none : (marks : List ℕ) → FreeTo marks 0
+  free-none marks = record { free = λ i h. absurd (not-suc-le-zero h) }
+
+  pub free-more : (marks : List ℕ) (n : ℕ) → FreeTo marks n → FreeUnless (getD marks n 0) n → FreeTo marks (n + 1)
+  free-more marks n f g = record { free = below-more (λ (i : ℕ). FreeUnless (getD marks i 0) i) n (f .free) g }
 
   module _ (marks : List ℕ) (k : RootMarked marks) (keys : List ℕ) (m : ℕ) (marks′ keys′ : List ℕ)
       (p : Passes (entriesAt w) (Counted w) (capacity w) (clock w) (height w) (entriesAt w (root w)) marks 0)

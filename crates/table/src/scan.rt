@@ -1,7 +1,12 @@
 // The soundness test's pass over the tree, from a node down.
+use node::entry::cell;
+use node::entry::child;
 use node::entry::child_word;
 use node::entry::count;
+use node::entry::is_counted;
 use node::entry::stamp;
+use node::worked::is_worked_out;
+use track::cell::cell_in_range;
 use track::minute::is_minute;
 use words::NODE_WORDS;
 use words::node_start;
@@ -18,7 +23,9 @@ ghost use Rattle.words.specs.Words.{natOf};
 ghost use Rattle.node.specs.Entry.{Entry, childWord, childOf, stampOf, entriesOf};
 ghost use Rattle.track.specs.Numbers.{IsMinute};
 ghost use Rattle.table.specs.Header.{IsNode, nodesFor, wordsFor, entriesAt};
+ghost use Rattle.table.specs.Tree.{EntrySound};
 ghost use Rattle.table.specs.ScanParts.{ChildSound, NoneAfter, StampSound};
+ghost use Rattle.table.specs.Scan.{Taken, Entered, Counted};
 
 // What a pass over some entries comes to: so many identifiers gathered, or something that is not sound.
 pub enum Scan {
@@ -89,4 +96,54 @@ fn stamp_sound(n: &[i32], k: usize, child: &[i32], below: usize, clock: i32) -> 
         return true;
     }
     none_after(child, s)
+}
+
+// Whether entry k of the node n is sound; its child has `below` levels beneath it.
+fn entry_sound(t: &[i32], cells: usize, clock: i32, below: usize, n: &[i32], k: usize) -> bool
+    requires { ⌜ (cells ≤ 65536) × (wordsFor cells ≤ length (now t)) × (k < fullNode) ⌝ }
+    ensures { λ r. ⌜ Tells r (EntrySound (entriesAt (now (t .entry))) cells clock below (entryAt (now (n .entry)) k)) ⌝ }
+{
+    if !child_sound(t, cells, n, k) {
+        return false;
+    }
+    let c = node_at(t, child(n, k));
+    if !stamp_sound(n, k, c, below, clock) {
+        return false;
+    }
+    is_worked_out(n, k, c, below == 0)
+}
+
+// Gathers the identifier of a leaf's entry k, if it is a cell in range and there is room for one more.
+fn take_cell(n: &[i32], k: usize, cells: usize, keys: &mut [u64], m: usize) -> bool
+    requires { ⌜ (k < fullNode) × (cells ≤ length (now keys)) ⌝ }
+    ensures { λ r. ⌜ Taken cells (entryAt (now (n .entry)) k) (now (keys .entry)) m r (now (keys .exit)) ⌝ }
+{
+    let c = cell(n, k);
+    if !cell_in_range(c) {
+        return false;
+    }
+    if cells <= m {
+        return false;
+    }
+    keys[m] = place(c.id) as u64;
+    true
+}
+
+// Marks the child of an inner entry k, if the entry is sound and the child was not met before.
+fn enter(t: &[i32], cells: usize, clock: i32, below: usize, n: &[i32], k: usize, marks: &mut [u8]) -> bool
+    requires { ⌜ (cells ≤ 65536) × (wordsFor cells ≤ length (now t)) × (k < fullNode) × (nodesFor cells ≤ length (now marks)) ⌝ }
+    ensures { λ r. ⌜ Entered (entriesAt (now (t .entry))) (Counted (now (t .entry))) cells clock below (entryAt (now (n .entry)) k) (now (marks .entry)) r (now (marks .exit)) ⌝ }
+{
+    if !entry_sound(t, cells, clock, below, n, k) {
+        return false;
+    }
+    let c = child(n, k);
+    if !is_counted(node_at(t, c)) {
+        return false;
+    }
+    if marks[c] != 0 {
+        return false;
+    }
+    marks[c] = 1;
+    true
 }

@@ -4,7 +4,7 @@ use mathlib.Core.List.{List, [], _∷_}
 use Prim.Native.Nat.{ℕ, _+_, _*_, _≤_}
 use native.Mathlib.Nat.{le-dest}
 use native.Mathlib.Omega.{arith}
-use lib.IntN.{ℤ, pos, _+ℤ_, _-ℤ_, _*ℤ_, +ℤ-negℤ-cancel}
+use lib.IntN.{ℤ, pos, _+ℤ_, _*ℤ_, +ℤ-negℤ-cancel}
 use lib.ListN.{getD}
 use Rattle.whole.specs.Difference.{all2, difs}
 use Rattle.whole.specs.Lists.{_∈_}
@@ -13,7 +13,7 @@ use Rattle.track.specs.Numbers.{IsVelocity, IsEdge, IsKept}
 use Rattle.track.specs.Meets.{Row, Bounds, low, high, lowVelocity, highVelocity, cellBounds}
 use Rattle.track.specs.Hull.{lowAt, highAt}
 use Rattle.track.specs.HullLaws.{Tight}
-use Rattle.track.specs.Small.{RowInRange, BoundsInRange, CellInRange}
+use Rattle.track.specs.Small.{RowInRange, CellInRange}
 use Rattle.track.specs.declared.cell.Cell.{Cell}
 
 -- where an edge can be at minute m: as far out as a kept position, and 512 more for each minute

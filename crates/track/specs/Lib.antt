@@ -6,6 +6,9 @@ pub mod Meets
 pub mod Cut
 pub mod Decides
 pub mod Small
+pub mod Accepted
+pub mod Answer
+pub mod AnswerLaws
 pub mod Hull
 pub mod Tracks
 pub mod HullLaws

@@ -1,6 +1,8 @@
 use crate::cell::Cell;
+use crate::cell::Reported;
 use crate::interval::Interval;
 use crate::minute::Minute;
+use crate::query::Asked;
 use crate::query::Query;
 use whole::wide;
 ghost use mathlib.Core.Path.{_≡_};
@@ -10,6 +12,9 @@ ghost use Rattle.track.specs.Query.{QueryInRange};
 ghost use Rattle.track.specs.Meets.{span, Meets, CellMeets, cellBounds};
 ghost use Rattle.track.specs.Decides.{meetingOf};
 ghost use Rattle.track.specs.Small.{BoundsInRange, CellInRange};
+ghost use Rattle.track.specs.Refusals.{Gives};
+ghost use Rattle.track.specs.Answer.{answersTo};
+ghost use Rattle.track.specs.Accepted.{KeptInRange, TakenInRange};
 
 // The minutes over which the query's rectangle moves, and 1 where its start is its end.
 fn span(k: Query) -> i64
@@ -33,9 +38,8 @@ pub fn meeting(b: [[i32; 4]; 2], k: Query) -> Interval
         hid: 1,
     };
     let minutes = span(k);
-    whole
-        .along(k.x, b[0], start, minutes)
-        .along(k.y, b[1], start, minutes)
+    let on_x = whole.along(k.x, b[0], start, minutes);
+    on_x.along(k.y, b[1], start, minutes)
 }
 
 // Whether what has these bounds and lives until `expiry` meets the query.
@@ -58,4 +62,21 @@ pub fn cell_meets(c: Cell, k: Query) -> bool
     ensures { λ r. ⌜ Tells r (CellMeets c k) ⌝ }
 {
     meets(cell_bounds(c), c.expiry.at, k)
+}
+
+// What is told of a report and a query on its cell: 1 for yes, 0 for no, else the first refusal's number.
+pub fn answer(reported: Reported, asked: Asked) -> i32
+    requires { ⌜ (KeptInRange reported) × (TakenInRange asked) ⌝ }
+    ensures { λ r. ⌜ Gives (answersTo reported asked) r ⌝ }
+{
+    match reported {
+        Reported::Kept(c) => match asked {
+            Asked::Taken(k) => if cell_meets(c, k) { 1 } else { 0 },
+            Asked::Refused(why) => why.number(),
+        },
+        Reported::Refused(why) => match asked {
+            Asked::Taken(_) => why.number(),
+            Asked::Refused(other) => why.first(other),
+        },
+    }
 }

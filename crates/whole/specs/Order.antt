@@ -8,6 +8,7 @@ use lib.Dec.{T, lt→ltb, nleb→lt}
 use lib.IntN.{ℤ, pos, negsuc, negℤ, _+ℤ_, _-ℤ_, _*ℤ_, *ℤ-comm, +ℤ-assoc, +ℤ-comm, negℤ-+ℤ, negℤ-negℤ}
 use lib.Signed.{_≤ℤ_, _<ℤ_, leZ, ltZ, leZ-yes, ltZ-yes, ltZ-no}
 use Rattle.whole.specs.Difference.{each, all2, all3, all4, difs, cross}
+use Rattle.whole.specs.Tells.{stable}
 
 -- ---- the ring
 pub *ℤ-assoc : (a b c : ℤ) → a *ℤ b *ℤ c ≡ a *ℤ (b *ℤ c)
@@ -78,6 +79,10 @@ ltZ-true e = ltZ-yes (subst T (sym e) tt)
 
 pub ltZ-false : {a b : ℤ} → ltZ a b ≡ false → b ≤ℤ a
 ltZ-false e = ltZ-no (subst (λ (t : Bool). T (not t)) (sym e) tt)
+
+-- an order that cannot be denied holds
+pub ≤ℤ-stable : {a b : ℤ} → ((a ≤ℤ b → ⊥) → ⊥) → a ≤ℤ b
+≤ℤ-stable {a} {b} = stable {b = leZ a b} (record { sure = λ t. leZ-yes t; seen = λ h. h .le })
 
 pub leZ-true : {a b : ℤ} → leZ a b ≡ true → a ≤ℤ b
 leZ-true e = leZ-yes (subst T (sym e) tt)

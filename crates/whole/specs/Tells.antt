@@ -1,5 +1,6 @@
 -- What a test's answer tells: a Bool that is true exactly when a fact holds.
 use mathlib.Core.Path.{_≡_, refl, sym, subst}
+use mathlib.Core.Logic.{_↔_}
 use mathlib.Core.Bool.{Bool, true, false, not}
 use lib.Dec.{T}
 
@@ -42,3 +43,13 @@ tells-as t f g = record { sure = λ h. f (t .sure h); seen = λ q. t .seen (g q)
 pub decided : {b : Bool} {P : Type 0} → Tells b P → Dec P
 decided {b = true} t = yes (t .sure tt)
 decided {b = false} t = no (λ p. t .seen p)
+
+-- a flag that is true exactly when a fact holds
+pub tells-iff : {b : Bool} {P : Type 0} → ((b ≡ true) ↔ P) → Tells b P
+tells-iff {b = true} e = record { sure = λ t. e .0 refl; seen = λ p. tt }
+tells-iff {b = false} e = record { sure = λ t. absurd t; seen = λ p. subst T (sym (e .1 p)) tt }
+
+-- what cannot be denied holds, where a test tells it
+pub stable : {b : Bool} {P : Type 0} → Tells b P → ((P → ⊥) → ⊥) → P
+stable {b = true} t f = t .sure tt
+stable {b = false} t f = absurd (f (λ p. t .seen p))

@@ -5,14 +5,16 @@ use native.Mathlib.Nat.{div-le-self, mul-le-mul, lt-of-le-of-lt, le-trans}
 use native.Mathlib.Omega.{arith}
 use mathlib.Core.List.{List}
 use lib.ListN.{getD}
-use lib.Dec.{T, ltb, leb, ltb→lt, leb→le, lt→ltb}
+use lib.Dec.{T, ltb, leb, eqb, ltb→lt, leb→le, lt→ltb, le→leb, eqb→eq}
 use lib.IntN.{ℤ, pos, negsuc, negℤ, natAbs, _+ℤ_, _-ℤ_, _*ℤ_, +ℤ-idl}
 use lib.Signed.{_≤ℤ_, _<ℤ_, mag, natAbs-le, quotZ}
+use borrow.Author.Tests.{eq-eqb}
 use mir.Syntax.{Width, w32, w64}
 use mir.Val.{SFits, hbits, toZ, ofZ}
 use mir.ValLaws as ValLaws
 use Rattle.whole.specs.Difference.{each, all2, difs}
 use Rattle.whole.specs.Order.{≤ℤ-trans}
+use Rattle.whole.specs.Tells.{Tells, stable}
 
 -- z lies within `bound` either side of 0. A record, so that both are inferred from a fact
 pub record Within (bound : ℕ) (z : ℤ) : Type 0 where
@@ -88,6 +90,10 @@ from-zero {bound} h k = between (≤ℤ-trans (neg-le bound) h) k
     neg-le : (bound : ℕ) → negℤ (pos bound) ≤ℤ pos 0
     neg-le bound = simp difs (omega arith)
 
+-- a range that cannot be denied holds
+pub within-stable : {bound : ℕ} {z : ℤ} → ((Within bound z → ⊥) → ⊥) → Within bound z
+within-stable {bound} {z} = stable {b = leb (natAbs z) bound} (record { sure = λ t. record { abs = leb→le (natAbs z) bound t }; seen = λ h. le→leb (natAbs z) bound (h .abs) })
+
 -- ---- what fits a width: `fits tt (mul-in h k)`
 mag-abs : (z : ℤ) → mag z ≤ natAbs z
 mag-abs (pos n) = omega arith
@@ -118,6 +124,10 @@ read32 t h = back (fits t h)
 pub read64 : {z : ℤ} {bound : ℕ} → T (ltb bound (2 ^ 63)) → Within bound z → toZ w64 (ofZ w64 z) ≡ z
 read64 t h = back (fits t h)
 
+-- a call's result z, and `c .call .ok` is the fact that it fits
+pub word-back : (z : ℤ) → mag z < 2 ^ hbits w32 → toZ w32 (ofZ w32 z) ≡ z
+word-back z small = back (record { sfits = small })
+
 -- `-x` in the code is 0 − x
 pub neg-read32 : {z : ℤ} {bound : ℕ} → T (ltb bound (2 ^ 31)) → Within bound z → toZ w32 (ofZ w32 (pos 0 -ℤ z)) ≡ negℤ z
 neg-read32 {z} t h = ap (λ (y : ℤ). toZ w32 (ofZ w32 y)) (+ℤ-idl (negℤ z)) ∙ read32 t (neg-in h)
@@ -132,6 +142,9 @@ read-at w xs i g = ValLaws.toZ-ofZ w (getD xs i (pos 0)) (record { sfits = g })
 -- `==` of two signed numbers is an equation of their bits
 pub bits-eq : (w : Width) (a b : ℤ) → SFits w a → SFits w b → ofZ w a ≡ ofZ w b → a ≡ b
 bits-eq w a b f g e = sym (ValLaws.toZ-ofZ w a f) ∙ ap (toZ w) e ∙ ValLaws.toZ-ofZ w b g
+
+pub equal-tells : (w : Width) (a b : ℤ) → SFits w a → SFits w b → Tells (eqb (ofZ w a) (ofZ w b)) (a ≡ b)
+equal-tells w a b f g = record { sure = λ t. bits-eq w a b f g (eqb→eq (ofZ w a) (ofZ w b) t); seen = λ e. subst T (sym (eq-eqb (ofZ w a) (ofZ w b) (ap (ofZ w) e))) tt }
 
 -- a count, as a signed number
 pub read-nat : (w : Width) (n : ℕ) → n < 2 ^ hbits w → toZ w n ≡ pos n

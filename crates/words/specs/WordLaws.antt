@@ -5,23 +5,19 @@ use Prim.Native.Nat.{ℕ, suc, _+_, _^_, _<_, _≤_}
 use native.Mathlib.Omega.{arith}
 use lib.Dec.{ltb→lt}
 use lib.IntN.{ℤ, pos, negsuc, natAbs}
-use lib.Signed.{_≤ℤ_, _<ℤ_, mag}
-use mir.Syntax.{Width, w32}
-use mir.Val.{SFits, hbits, toZ, ofZ}
+use lib.Signed.{_≤ℤ_, _<ℤ_}
+use mir.Syntax.{Width}
+use mir.Val.{SFits, hbits}
 use native.Mathlib.Nat.{add-zero, add-assoc}
 use native.Mathlib.Numerals.{add-one, add-two, add-three}
 use lib.ListN.{length, getD, List·getD-eq-default, length-append}
 use lib.Seq.{drop-cons}
 use Rattle.words.specs.Parts.{part, put}
 use Rattle.words.specs.PartLaws.{length-put, getD-part, getD-put-below, getD-put-above, part-put, part-add, put-beside}
-use Rattle.whole.specs.Within.{Within, back}
+use Rattle.whole.specs.Within.{Within}
 use Rattle.words.specs.Layout.{nodeWords, nodeStart, nodeAt}
 use Rattle.words.specs.LayoutLaws.{word-nodeAt}
 use Rattle.words.specs.Words.{wordAt, natOf, rowAt, rowsAt, inLine, TwoRows}
-
--- ---- a word in a local of the code: a call's result z is read back from bits, and `c .word .ok` is the fact that it fits
-pub word-back : (z : ℤ) → mag z < 2 ^ hbits w32 → toZ w32 (ofZ w32 z) ≡ z
-word-back z small = back (record { sfits = small })
 
 -- ---- a word as a count
 pub natOf-pos : (n : ℕ) → natOf (pos n) ≡ n

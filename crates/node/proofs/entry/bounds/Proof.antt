@@ -1,4 +1,4 @@
-use mathlib.Core.Path.{sym, ap, _∙_}
+use mathlib.Core.Path.{sym, _∙_}
 use Rattle.node.specs.Entry.{boundsOf}
 use Rattle.node.specs.EntryLaws.{entry-rows}
 use borrow.Author.Needs.{needs}

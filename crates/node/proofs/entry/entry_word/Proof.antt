@@ -1,6 +1,6 @@
 use mathlib.Core.Path.{sym, _∙_}
 use Rattle.words.specs.LayoutLaws.{word-entryAt}
-use Rattle.words.specs.WordLaws.{word-back}
+use Rattle.whole.specs.Within.{word-back}
 use lib.IntN.{pos}
 use borrow.Author.Needs.{needs}
 use Rattle.node.proofs.entry.entry_word.Statement.{statement}

@@ -5,7 +5,7 @@ use lib.Signed.{clashℤ}
 use borrow.Author.Needs.{needs}
 use Rattle.whole.specs.Order.{ltZ-true, ltZ-false}
 use Rattle.whole.specs.Tells.{tells-false}
-use Rattle.words.specs.WordLaws.{word-back}
+use Rattle.whole.specs.Within.{word-back}
 use Rattle.node.specs.Entry.{countWord}
 use Rattle.node.specs.EntryLaws.{counted}
 use Rattle.node.proofs.entry.is_counted.Statement.{statement}

@@ -7,7 +7,7 @@ use mir.Val.{toZ, ofZ}
 use borrow.Author.Needs.{needs}
 use Rattle.whole.specs.Within.{Within, any-in, add-in, mul-in, widen, fits, back, read-at, read64}
 use Rattle.track.specs.Numbers.{minute-in}
-use Rattle.node.specs.Pass.{columnAt, column-edge, column-velocity}
+use Rattle.node.specs.Pass.{column-edge, column-velocity}
 use Rattle.node.proofs.worked.column_at.Statement.{statement}
 use Rattle.node.proofs.worked.column_at.Tie as tie
 

@@ -1,56 +1,68 @@
+use mathlib.Core.Path.{sym, _∙_}
+use Prim.Native.Nat.{_-_, _^_, _<_}
+use native.Mathlib.Omega.{arith}
+use mir.Syntax.{w32, w64}
+use mir.Val.{toZ}
+use borrow.Author.Needs.{needs}
+use Rattle.whole.specs.Within.{Within, back, lit-in, read64}
+use Rattle.words.specs.Layout.{fullNode}
+use Rattle.node.specs.EntryLaws.{count-fits}
+use Rattle.node.specs.Pass.{outer, readingOf, Passed, passed-none, passed-first, passed-next, passed-all, outer-in}
 use Rattle.node.proofs.worked.extreme.Statement.{statement}
 use Rattle.node.proofs.worked.extreme.Tie as tie
-use Rattle.node.proofs.worked.extreme.Reads as reads
-use Rattle.node.proofs.worked.extreme.Lts as lts
-use Rattle.node.proofs.entry.count.Reads as count-reads
-use Rattle.node.proofs.worked.outer.Reads as outer-reads
-use Rattle.node.proofs.worked.reading.Reads as reading-reads
 
 abbrev Inv-loop : tie.InvT-loop
-Inv-loop node leaf axis column stamp n found₀ k₀ found k = ?
+Inv-loop node leaf axis column stamp n found₀ k₀ found k = Passed (outer column) (readingOf leaf axis column (toZ w32 stamp)) node k (toZ w64 found) × Within (2 ^ 42) (toZ w64 found)
 
 abbrev μ-loop : tie.MeasureT-loop
-μ-loop node leaf axis column stamp n found₀ k₀ found k = ?
+μ-loop node leaf axis column stamp n found₀ k₀ found k = n - k
 
--- src/worked.rt:60:9
 count-requires : tie.Need-count-requires Inv-loop μ-loop
-count-requires c κs = ?
+count-requires c κs = search needs
 
--- src/worked.rt:62:9
 returns : tie.Need-returns Inv-loop μ-loop
-returns c = ?
+returns c =
+    let a = c .before .before .args in
+    let none = passed-none (outer (a .column)) (readingOf (a .leaf) (a .axis) (a .column) (a .stamp)) (a .node .now) (sym (c .before .count .ensures) ∙ c .if1 .taken) in
+    (none, lit-in 0 tt)
 
--- src/worked.rt:64:9
 reading-requires : tie.Need-reading-requires Inv-loop μ-loop
-reading-requires c κs = ?
+reading-requires c κs = search needs
 
--- src/worked.rt:66:5
 loop-holds : tie.Need-loop-holds Inv-loop μ-loop
-loop-holds c = ?
+loop-holds c =
+    let told = c .reading .ensures in
+    simp (read64 tt (told .1)) (passed-first (search needs) (told .0), told .1)
 
--- src/worked.rt:67:38
 reading-requires-2 : tie.Need-reading-requires-2 Inv-loop μ-loop
-reading-requires-2 c κs = ?
+reading-requires-2 c κs =
+    let s = c .before .before .before .before .before in
+    let low : c .before .loop .k < fullNode = omega (arith, count-fits (s .args .node .now)) in
+    simp (back (s .fits .stamp)) (low, s .pre .0, s .pre .1, s .pre .2)
 
--- src/worked.rt:67:9
 outer-requires : tie.Need-outer-requires Inv-loop μ-loop
-outer-requires c κs = ?
+outer-requires c κs = search needs
 
--- src/worked.rt:68:9
 add-k : tie.Need-add-k Inv-loop μ-loop
-add-k c = ?
+add-k c = search needs
 
--- src/worked.rt:66:5
 loop-less : tie.Need-loop-less Inv-loop μ-loop
-loop-less c = ?
+loop-less c = search needs
 
--- src/worked.rt:66:5
 loop-again : tie.Need-loop-again Inv-loop μ-loop
-loop-again c = ?
+loop-again c =
+    let a = c .before .before .before .before .before .before .before .args in
+    let inv = c .before .before .before .loop .inv in
+    let told = c .before .reading2 .ensures in
+    let e = simp (read64 tt (told .1)) at (c .outer .ensures) in
+    let small = outer-in (a .column) (inv .1) (told .1) in
+    simp (e, read64 tt small) (passed-next (inv .0) (search needs) (rw (told .0)), small)
 
--- src/worked.rt:56:1
 returns-2 : tie.Need-returns-2 Inv-loop μ-loop
-returns-2 c = ?
+returns-2 c =
+    let s = c .before .before .before .before .before in
+    let inv = c .before .loop .inv in
+    (simp (back (s .fits .stamp)) at (passed-all (inv .0) (search needs)), inv .1)
 
 pub extreme-spec : {M : Type 1} → statement M
 extreme-spec =

@@ -1,56 +1,60 @@
+use Prim.Native.Nat.{_-_}
+use mathlib.Core.Path.{sym, _∙_}
+use native.Mathlib.Omega.{arith}
+use mir.Syntax.{w32}
+use mir.Val.{toZ}
+use borrow.Author.Needs.{needs}
+use Rattle.whole.specs.Within.{word-back}
+use Rattle.track.specs.Hull.{greater}
+use Rattle.node.specs.Entry.{untilOf}
+use Rattle.node.specs.EntryLaws.{count-fits}
+use Rattle.node.specs.Pass.{Passed, passed-none, passed-first, passed-next, passed-all, latest-pass}
 use Rattle.node.proofs.worked.latest.Statement.{statement}
 use Rattle.node.proofs.worked.latest.Tie as tie
-use Rattle.node.proofs.worked.latest.Reads as reads
-use Rattle.node.proofs.worked.latest.Lts as lts
-use Rattle.node.proofs.entry.count.Reads as count-reads
-use Rattle.node.proofs.entry.until.Reads as until-reads
-use Rattle.node.proofs.worked.later.Reads as later-reads
 
 abbrev Inv-loop : tie.InvT-loop
-Inv-loop node leaf n found₀ k₀ found k = ?
+Inv-loop node leaf n found₀ k₀ found k = Passed greater (untilOf leaf) node k (toZ w32 found)
 
 abbrev μ-loop : tie.MeasureT-loop
-μ-loop node leaf n found₀ k₀ found k = ?
+μ-loop node leaf n found₀ k₀ found k = n - k
 
--- src/worked.rt:77:9
 count-requires : tie.Need-count-requires Inv-loop μ-loop
-count-requires c κs = ?
+count-requires c κs = search needs
 
--- src/worked.rt:79:9
 returns : tie.Need-returns Inv-loop μ-loop
-returns c = ?
+returns c =
+    let a = c .before .before .args in
+    passed-none greater (untilOf (a .leaf)) (a .node .now) (sym (c .before .count .ensures) ∙ c .if1 .taken) ∙ latest-pass (a .leaf) _
 
--- src/worked.rt:81:9
 until-requires : tie.Need-until-requires Inv-loop μ-loop
-until-requires c κs = ?
+until-requires c κs = search needs
 
--- src/worked.rt:83:5
 loop-holds : tie.Need-loop-holds Inv-loop μ-loop
-loop-holds c = ?
+loop-holds c = let u = c .until in passed-first (search needs) (word-back (u .result) (u .ok) ∙ u .ensures)
 
--- src/worked.rt:84:30
 until-requires-2 : tie.Need-until-requires-2 Inv-loop μ-loop
-until-requires-2 c κs = ?
+until-requires-2 c κs = omega (arith, count-fits (c .before .before .before .before .before .args .node .now))
 
--- src/worked.rt:84:9
 later-requires : tie.Need-later-requires Inv-loop μ-loop
-later-requires c κs = ?
+later-requires c κs = search needs
 
--- src/worked.rt:85:9
 add-k : tie.Need-add-k Inv-loop μ-loop
-add-k c = ?
+add-k c = search needs
 
--- src/worked.rt:83:5
 loop-less : tie.Need-loop-less Inv-loop μ-loop
-loop-less c = ?
+loop-less c = search needs
 
--- src/worked.rt:83:5
 loop-again : tie.Need-loop-again Inv-loop μ-loop
-loop-again c = ?
+loop-again c =
+    let u = c .before .until2 in
+    let l = c .later in
+    let e = simp (word-back (u .result) (u .ok)) at (l .ensures) in
+    passed-next (c .before .before .before .loop .inv) (search needs) (word-back (l .result) (l .ok) ∙ e ∙ rw (u .ensures))
 
--- src/worked.rt:74:1
 returns-2 : tie.Need-returns-2 Inv-loop μ-loop
-returns-2 c = ?
+returns-2 c =
+    let a = c .before .before .before .before .before .args in
+    passed-all (c .before .loop .inv) (search needs) ∙ latest-pass (a .leaf) _
 
 pub latest-spec : {M : Type 1} → statement M
 latest-spec =

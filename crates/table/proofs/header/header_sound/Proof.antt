@@ -6,7 +6,7 @@ use lib.Signed.{leZ-yes}
 use mir.Syntax.{w32}
 use mir.Val.{toZ, ofZ}
 use Rattle.whole.specs.Tells.{Tells, tells-false, passed-not, failed-not}
-use Rattle.words.specs.WordLaws.{word-back}
+use Rattle.whole.specs.Within.{word-back}
 use Rattle.track.specs.Numbers.{IsMinute}
 use Rattle.table.specs.Header.{capacityWord, capacity, clock, rootWord, heightWord, IsCapacity, IsNode, wordsFor}
 use Rattle.table.specs.HeaderLaws.{capacity-low}

@@ -3,7 +3,7 @@ use mir.Syntax.{w32}
 use mir.Val.{toZ, ofZ}
 use Rattle.whole.specs.Tells.{Tells, tells-false, passed-not, failed-not}
 use Rattle.words.specs.Layout.{entryAt, nodeAt}
-use Rattle.words.specs.WordLaws.{word-back}
+use Rattle.whole.specs.Within.{word-back}
 use Rattle.node.specs.Entry.{childWord, childOf, countOf}
 use Rattle.table.specs.Header.{IsNode}
 use Rattle.table.specs.ScanParts.{child-tells, node-in-table}

@@ -6,7 +6,7 @@ use borrow.Author.Needs.{needs}
 use Rattle.whole.specs.Order.{ltZ-true, ltZ-false}
 use Rattle.whole.specs.Tells.{tells-true, tells-false}
 use Rattle.whole.specs.Within.{back}
-use Rattle.words.specs.WordLaws.{word-back}
+use Rattle.whole.specs.Within.{word-back}
 use Rattle.node.specs.Entry.{entriesOf, countOf}
 use Rattle.node.specs.EntryLaws.{count-fits}
 use Rattle.table.specs.ScanParts.{NoneBefore, none-first, none-more, none-all, one-after}

@@ -6,7 +6,7 @@ use Rattle.whole.specs.Order.{ltZ-true, ltZ-false}
 use Rattle.whole.specs.Tells.{Tells, tells-true, tells-false, tells-as, passed-not, failed-not}
 use Rattle.whole.specs.Within.{back}
 use Rattle.words.specs.Layout.{entryAt}
-use Rattle.words.specs.WordLaws.{word-back}
+use Rattle.whole.specs.Within.{word-back}
 use Rattle.track.specs.Numbers.{IsMinute}
 use Rattle.node.specs.Entry.{stampOf}
 use borrow.Author.Needs.{needs}

@@ -1,0 +1,33 @@
+// What the C viewer asks, on plain numbers.
+use track::cell::Cell;
+use track::meeting::answer;
+use track::minute::Minute;
+use track::query::Query;
+ghost use Rattle.track.specs.Refusals.{Gives};
+ghost use Rattle.viewer.specs.Window.{windowAnswers};
+
+// Whether the cell of a report meets a window: 1 for yes, 0 for no, else the refusal's number. The report's
+// own minute is the clock at which the window is asked; the report is made at the first minute, so none is early.
+#[no_mangle]
+pub extern "C" fn bradawlet_meets(
+    id: i32,
+    x: i32,
+    y: i32,
+    vx: i32,
+    vy: i32,
+    minute: i32,
+    expiry: i32,
+    start: i32,
+    end: i32,
+    xlow: i32,
+    xhigh: i32,
+    ylow: i32,
+    yhigh: i32,
+) -> i32
+    ensures { λ r. ⌜ Gives (windowAnswers id x y vx vy minute expiry start end xlow xhigh ylow yhigh) r ⌝ }
+{
+    let first = Minute::FIRST;
+    let reported = Cell::reported(first.at, id, x, y, vx, vy, minute, expiry);
+    let asked = Query::window(minute, start, end, xlow, xhigh, ylow, yhigh);
+    answer(reported, asked)
+}
