@@ -9,7 +9,7 @@ use lib.IntN.{ℤ}
 use lib.ListN.{length, drop, getD}
 use Rattle.whole.specs.Rising.{<ℤ-same}
 use Rattle.track.specs.Query.{queryReasons}
-use Rattle.track.specs.Refusals.{First, _when_, first-fixed, number}
+use Rattle.track.specs.Refusals.{First, _when_, first-fixed, number, refused-not-zero}
 use Rattle.track.specs.declared.query.Query.{Query}
 use Rattle.track.specs.declared.refusal.Refusal.{Refusal}
 use Rattle.track.specs.declared.refusal.Refusal.the-variants.{NotSound, BadCapacity, ShortTable, OutOfRange, BeforeClock, ExpiresFirst, Backward, NotLive, Full, ShortList, BadHeader, BadRecord, ShortBytes}
@@ -27,7 +27,7 @@ hits-fixed h j = <ℤ-same (h .rising) (j .rising) (λ id m. j .all id (h .only 
 hits-length : {w : List ℤ} {k : Query} {ids jds : List ℤ} → Hits w k ids → Hits w k jds → length ids ≡ length jds
 hits-length h j = ap length (hits-fixed h j)
 
--- ---- a refusal is fixed by its number, which is not 0
+-- ---- a refusal is fixed by its number
 named : ℕ → Refusal
 named n = getD (NotSound ∷ BadCapacity ∷ ShortTable ∷ OutOfRange ∷ BeforeClock ∷ ExpiresFirst ∷ Backward ∷ NotLive ∷ Full ∷ ShortList ∷ BadHeader ∷ BadRecord ∷ []) (n - 1) ShortBytes
 
@@ -46,21 +46,6 @@ named-number ShortList = refl
 named-number BadHeader = refl
 named-number BadRecord = refl
 named-number ShortBytes = refl
-
-number-some : (r : Refusal) → 0 < number r
-number-some NotSound = omega arith
-number-some BadCapacity = omega arith
-number-some ShortTable = omega arith
-number-some OutOfRange = omega arith
-number-some BeforeClock = omega arith
-number-some ExpiresFirst = omega arith
-number-some Backward = omega arith
-number-some NotLive = omega arith
-number-some Full = omega arith
-number-some ShortList = omega arith
-number-some BadHeader = omega arith
-number-some BadRecord = omega arith
-number-some ShortBytes = omega arith
 
 number-same : {r s : Refusal} → number r ≡ number s → r ≡ s
 number-same {r} {s} e = sym (named-number r) ∙ ap named e ∙ named-number s
@@ -104,11 +89,11 @@ module _ {w : List ℤ} {B : Type 0} {k : Query} {list : List ℤ} where
       → answerHits r ≡ answerHits s → answerOpened r ≡ answerOpened s → r ≡ s
   answer-same {r = Listed f} {s = Listed g} p q e h o = ap Listed (found-same h o)
   answer-same {r = Listed f} {s = TooMany n} p q e h o = absurd (omega arith)
-  answer-same {r = Listed f} {s = Refused x} p q e h o = absurd (omega (arith, number-some x))
+  answer-same {r = Listed f} {s = Refused x} p q e h o = absurd (refused-not-zero x (sym e))
   answer-same {r = TooMany m} {s = Listed g} p q e h o = absurd (omega arith)
   answer-same {r = TooMany m} {s = TooMany n} p q e h o = ap TooMany h
   answer-same {r = TooMany m} {s = Refused x} p q e h o = absurd (omega (arith, some-hits q (sym e)))
-  answer-same {r = Refused x} {s = Listed g} p q e h o = absurd (omega (arith, number-some x))
+  answer-same {r = Refused x} {s = Listed g} p q e h o = absurd (refused-not-zero x e)
   answer-same {r = Refused x} {s = TooMany n} p q e h o = absurd (omega (arith, some-hits p e))
   answer-same {r = Refused x} {s = Refused y} p q e h o = ap Refused (number-same e)
 

@@ -2,7 +2,7 @@ use mathlib.Core.Path.{_≡_, _∙_}
 use mir.Syntax.{w32}
 use mir.Val.{toZ, ofZ}
 use Rattle.words.specs.Layout.{entryAt}
-use Rattle.words.specs.WordLaws.{word-back}
+use Rattle.whole.specs.Within.{word-back}
 use Rattle.node.specs.Entry.{boundsOf, untilOf}
 use Rattle.table.specs.Tree.{isLeaf}
 use Rattle.query.specs.Opening.{leaf-flag}
