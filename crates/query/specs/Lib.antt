@@ -4,3 +4,5 @@ pub mod Queried
 pub mod QueriedLaws
 pub mod Finding
 pub mod Opening
+pub mod Gathering
+pub mod Listing

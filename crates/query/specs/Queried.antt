@@ -48,8 +48,12 @@ pub record Counts (w : List ℤ) (k : Query) (r : Answer) : Type 0 where
   pub hits : Hits w k ids
   pub hit-count : answerHits r ≡ length ids
 
-pub record Queried (w : List ℤ) (Backward : Type 0) (k : Query) (list : List ℤ) (r : Answer) (list′ : List ℤ) : Type 0 where
-  pub refusal : First (reasons w Backward k list) (answerNumber r)
+-- the answer r to the query k and the list that it leaves, where these reasons to refuse it are tried
+pub record Answers (tried : List Reason) (w : List ℤ) (k : Query) (list : List ℤ) (r : Answer) (list′ : List ℤ) : Type 0 where
+  pub refusal : First tried (answerNumber r)
   pub accepted : answerNumber r ≡ 0 → Lists w k list r list′
   pub counted : answerNumber r ≡ 10 → Counts w k r
   pub unchanged : (answerNumber r ≡ 0 → ⊥) → list′ ≡ list
+
+abbrev pub Queried : List ℤ → Type 0 → Query → List ℤ → Answer → List ℤ → Type 0
+Queried w Backward k list r list′ = Answers (reasons w Backward k list) w k list r list′

@@ -24,7 +24,7 @@ use Rattle.query.specs.declared.answer.Answer.the-variants.{Listed, TooM
 pub hits-fixed : {w : List ℤ} {k : Query} {ids jds : List ℤ} → Hits w k ids → Hits w k jds → ids ≡ jds
 hits-fixed h j = <ℤ-same (h .rising) (j .rising) (λ id m. j .all id (h .only id m)) (λ id m. h .all id (j .only id m))
 
-hits-length : {w : List ℤ} {k : Query} {ids jds : List ℤ} → Hits w k ids → Hits w k jds → length ids ≡ length jds
+pub hits-length : {w : List ℤ} {k : Query} {ids jds : List ℤ} → Hits w k ids → Hits w k jds → length ids ≡ length jds
 hits-length h j = ap length (hits-fixed h j)
 
 -- ---- a refusal is fixed by its number
