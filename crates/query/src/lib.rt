@@ -1,3 +1,4 @@
 // Queries of a table: which cells meet a rectangle, still or moving.
 pub mod answer;
+pub mod listing;
 pub mod opening;
