@@ -9,4 +9,5 @@ pub mod Counts
 pub mod Frame
 pub mod ScanParts
 pub mod Scan
+pub mod Ready
 pub mod SoundBy

@@ -2,7 +2,7 @@
 -- `es` are entries of a node that has h levels beneath it; `marks` tells for each node whether it was met; m identifiers are gathered.
 use mathlib.Core.Path.{_≡_, refl, sym, ap, _∙_}
 use mathlib.Core.Logic.{_⊎_, inl, inr, ⊎-elim}
-use mathlib.Core.Bool.{Bool, true, false}
+use mathlib.Core.Bool.{Bool, true, false, not}
 use mathlib.Core.List.{List, [], _∷_, _++_, map, map-append, flatMap, List·Memᴰ·head, List·Memᴰ·tail, List·Memᴰ·cases-cons, List·Memᴰ·not-nil, List·Memᴰ·append-cases, Memᴰ·append-left, Memᴰ·append-right, append-assoc, append-nil}
 use Prim.Native.Nat.{ℕ, zero, suc, _+_, _-_, _≤_, _<_}
 use native.Mathlib.Decide.{ℕ-discrete}
@@ -14,6 +14,7 @@ use lib.ListN.{length, getD, set, take, length-append, length-set}
 use lib.Seq.{getD-set-same, getD-set-other, take-suc-set}
 use borrow.Author.Tests.{eq-eqb, ne-eqb}
 use Rattle.whole.specs.Lists.{_∈_}
+use Rattle.whole.specs.Tells.{not-true, not-false}
 use Rattle.whole.specs.Times.{times, once-if, times-append}
 use Rattle.words.specs.Layout.{nodeAt}
 use Rattle.words.specs.Words.{natOf}
@@ -336,3 +337,36 @@ module _ {N : Nodes} {C : ℕ → Type 0} {cells : ℕ} {clock : ℤ} where
                 (inner-more h d ds marks keys m lt new m₁ marks₁ keys₁ (p .1) s c (p .0) (k .0), inner-leaves N h d ds marks keys m lt new m₁ marks₁ keys₁ (p .1) m′ marks′ keys′ (k .1));
             fail = λ f k. q .fail f (inner-rest h d ds marks keys m lt new m₁ marks₁ keys₁ (p .1) k);
           }
+
+  -- ---- in the words of the calls that test one entry
+  pub way-untaken : (h : ℕ) (d : Entry) (es ds : List Entry) (marks keys : List ℕ) (m : ℕ) (r : Bool) (keys₁ : List ℕ) → h ≡ 0 → es ≡ d ∷ ds → Taken cells d keys m r keys₁ → not r ≡ true
+      → Outcome N C cells clock h es marks keys m Bad marks keys₁
+  way-untaken h d es ds marks keys m r keys₁ z e t f =
+      let n = t .refused (not-true f) in
+      rw (z, e) (bad refl (ap length (n .1)) (λ p. n .0 (leaf-head d ds marks keys m p) (leaf-room d ds marks keys m p)))
+
+  pub way-taken : (h : ℕ) (d : Entry) (es ds : List Entry) (marks keys : List ℕ) (m : ℕ) (r : Bool) (keys₁ : List ℕ) (q : Scan) (marks′ keys′ : List ℕ) → h ≡ 0 → es ≡ d ∷ ds → Taken cells d keys m r keys₁ → not r ≡ false
+      → cells ≤ length keys → Outcome N C cells clock h ds marks keys₁ (m + 1) q marks′ keys′ → Outcome N C cells clock h es marks keys m q marks′ keys′
+  way-taken h d es ds marks keys m r keys₁ q marks′ keys′ z e t f long o =
+      let y = t .taken (not-false f) in
+      way-cell h d es ds marks keys m q marks′ keys′ z e (y .0) (omega (arith, y .1)) (rw (y .2) at o)
+
+  pub way-unentered : (h : ℕ) (d : Entry) (es ds : List Entry) (marks keys : List ℕ) (m : ℕ) (r : Bool) (marks₁ : List ℕ) → (h ≡ 0 → ⊥) → es ≡ d ∷ ds → Entered N C cells clock (h - 1) d marks r marks₁ → not r ≡ true
+      → Outcome N C cells clock h es marks keys m Bad marks₁ keys
+  way-unentered zero d es ds marks keys m r marks₁ z e t f = absurd (z refl)
+  way-unentered (suc h) d es ds marks keys m r marks₁ z e t f =
+      let n = t .refused (not-true f) in
+      rw e (bad (ap length (n .1)) refl (λ p. n .0 (rw (sub-one (suc h)) (inner-head h d ds marks keys m p)) (inner-counted h d ds marks keys m p) (inner-new h d ds marks keys m p)))
+
+  pub way-entered-bad : (h : ℕ) (d : Entry) (es ds : List Entry) (marks keys : List ℕ) (m : ℕ) (r : Bool) (marks₁ marks′ keys′ : List ℕ) → (h ≡ 0 → ⊥) → es ≡ d ∷ ds → Entered N C cells clock (h - 1) d marks r marks₁ → not r ≡ false
+      → childOf d < length marks → Outcome N C cells clock (h - 1) (N (childOf d)) marks₁ keys m Bad marks′ keys′ → Outcome N C cells clock h es marks keys m Bad marks′ keys′
+  way-entered-bad h d es ds marks keys m r marks₁ marks′ keys′ z e t f lt o =
+      let y = t .entered (not-false f) in
+      way-child-bad h d es ds marks keys m marks′ keys′ z e lt (y .2) (rw (y .3) at o)
+
+  pub way-entered : (h : ℕ) (d : Entry) (es ds : List Entry) (marks keys : List ℕ) (m m₁ : ℕ) (r : Bool) (marks₀ marks₁ keys₁ : List ℕ) (q : Scan) (marks′ keys′ : List ℕ) → (h ≡ 0 → ⊥) → es ≡ d ∷ ds → Entered N C cells clock (h - 1) d marks r marks₀ → not r ≡ false
+      → childOf d < length marks → Outcome N C cells clock (h - 1) (N (childOf d)) marks₀ keys m (Passed m₁) marks₁ keys₁
+      → Outcome N C cells clock h ds marks₁ keys₁ m₁ q marks′ keys′ → Outcome N C cells clock h es marks keys m q marks′ keys′
+  way-entered h d es ds marks keys m m₁ r marks₀ marks₁ keys₁ q marks′ keys′ z e t f lt o k =
+      let y = t .entered (not-false f) in
+      way-child h d es ds marks keys m m₁ marks₁ keys₁ q marks′ keys′ z e (y .0) (y .1) lt (y .2) (rw (y .3) at o) k

@@ -1,6 +1,7 @@
 -- The parts of the soundness test put together: what each of them tells of `Sound`.
 use mathlib.Core.Path.{_≡_, refl, sym, ap, ap₂, _∙_, subst}
 use mathlib.Core.Logic.{_⊎_, inl, inr, ⊎-elim}
+use mathlib.Core.Bool.{Bool, true, false}
 use mathlib.Core.List.{List, [], _∷_, _++_, map, flatMap, List·Memᴰ·head, List·Memᴰ·tail, List·Memᴰ·cases-cons, List·Memᴰ·append-cases, List·Memᴰ·not-nil, Memᴰ·map, Memᴰ·of-map}
 use Prim.Native.Nat.{ℕ, zero, suc, _+_, _≤_, _<_}
 use native.Mathlib.Decide.{ℕ-discrete}
@@ -9,7 +10,7 @@ use borrow.Author.Count.{below-more}
 use native.Mathlib.Omega.{arith}
 use lib.Dec.{eqb}
 use lib.IntN.{ℤ, pos}
-use lib.ListN.{length, getD, set, take, length-map}
+use lib.ListN.{length, getD, set, take, length-map, length-set, replicate}
 use lib.Signed.{_≤ℤ_, leZ-yes}
 use Rattle.whole.specs.Lists.{_∈_, NoRepeat, no-repeat-none, no-repeat-cons, no-repeat-head, no-repeat-tail}
 use Rattle.whole.specs.Order.{≤ℤ-trans}
@@ -20,12 +21,14 @@ use Rattle.words.specs.WordLaws.{pos-natOf}
 use Rattle.track.specs.Numbers.{IsMinute}
 use Rattle.track.specs.Small.{CellInRange}
 use Rattle.node.specs.Entry.{Entry, cellOf, childOf, countWord, IsCount}
-use Rattle.table.specs.Header.{capacityWord, capacity, clock, rootWord, root, heightWord, height, IsCapacity, nodesFor, wordsFor, IsNode, entriesAt}
+use Rattle.table.specs.Header.{capacityWord, capacity, clock, rootWord, root, heightWord, height, IsCapacity, nodesFor, wordsFor, IsNode, entriesAt, greatestCapacity}
+use Rattle.table.specs.HeaderLaws.{capacity-low}
 use Rattle.table.specs.Tree.{Nodes, leavesOf, nodesOf, EntrySound, TreeSound}
 use Rattle.table.specs.Reach.{flat-in}
 use Rattle.table.specs.Sound.{reached, held, identifier, Sound}
 use Rattle.table.specs.ScanParts.{node-below}
-use Rattle.table.specs.Scan.{leavesIn, nodesIn, SoundIn, leaves-in, nodes-in, sound-in, in-sound, keyOf, Counted, Passes, Leaves}
+use Rattle.table.specs.Ready.{Ready}
+use Rattle.table.specs.Scan.{leavesIn, nodesIn, SoundIn, leaves-in, nodes-in, sound-in, in-sound, keyOf, Counted, Passes, Leaves, mark-put}
 
 -- ---- what the header tells
 pub record HeaderSound (w : List ℤ) : Type 0 where
@@ -190,3 +193,39 @@ module _ (w : List ℤ) where
           where
             met : i ∈ reached w → IsCount (countWord (nodeAt w i))
             met q = ⊎-elim (λ e. rw e (r .counted)) (p .counted i) (List·Memᴰ·cases-cons (rw (nodes-in (entriesAt w) (height w) (root w)) at q))
+
+-- ---- before the pass: no marks, and room for marks and keys of the greatest table
+pub record Clear (marks keys : List ℕ) : Type 0 where
+  pub none : (j : ℕ) → getD marks j 0 ≡ 0
+  pub marks-long : nodesFor greatestCapacity ≤ length marks
+  pub keys-long : greatestCapacity ≤ length keys
+
+module _ {w : List ℤ} {marks keys : List ℕ} (h : HeaderSound w) (c : Clear marks keys) where
+  pub few-cells : capacity w ≤ greatestCapacity
+  few-cells = capacity-low (h .capacity-in)
+
+  pub root-below : root w < length marks
+  root-below = omega (arith, node-below (h .root-in), few-cells, c .marks-long)
+
+  pub root-marked : RootMarked w (set marks (root w) 1)
+  root-marked = record { marked = λ j. mark-put marks (root w) j root-below (c .none (root w)) ∙ rw (c .none j) (omega arith) }
+
+  pub ready-root : Ready w (capacity w) (root w) (set marks (root w) 1) keys 0
+  ready-root = record {
+    few = omega (arith, few-cells);
+    long = h .long-enough;
+    node-in = node-below (h .root-in);
+    marks-long = rw (length-set marks (root w) 1) (omega (arith, few-cells, c .marks-long));
+    keys-long = omega (arith, few-cells, c .keys-long);
+    low = λ j. omega (arith, root-marked .marked j, once-low (eqb j (root w)));
+    room = omega arith;
+  }
+    where
+      once-low : (t : Bool) → once-if t ≤ 1
+      once-low true = omega arith
+      once-low false = omega arith
+
+pub zeros : (n j : ℕ) → _≡_ {A = ℕ} (getD (replicate n 0) j 0) 0
+zeros zero j = refl
+zeros (suc n) zero = refl
+zeros (suc n) (suc j) = zeros n j

@@ -14,7 +14,7 @@ use words::place;
 ghost use mathlib.Core.Path.{_≡_};
 ghost use Prim.Native.Nat.{ℕ, _+_, _*_, _/_, _≤_, _<_};
 ghost use lib.IntN.{pos};
-ghost use lib.ListN.{length};
+ghost use lib.ListN.{length, drop};
 ghost use lib.Signed.{_≤ℤ_};
 ghost use Rattle.whole.specs.Tells.{Tells};
 ghost use Rattle.whole.specs.Lists.{_∈_};
@@ -25,7 +25,8 @@ ghost use Rattle.track.specs.Numbers.{IsMinute};
 ghost use Rattle.table.specs.Header.{IsNode, nodesFor, wordsFor, entriesAt};
 ghost use Rattle.table.specs.Tree.{EntrySound};
 ghost use Rattle.table.specs.ScanParts.{ChildSound, NoneAfter, StampSound};
-ghost use Rattle.table.specs.Scan.{Taken, Entered, Counted};
+ghost use Rattle.table.specs.Scan.{Taken, Entered, Counted, Outcome};
+ghost use Rattle.table.specs.Ready.{Ready};
 
 // What a pass over some entries comes to: so many identifiers gathered, or something that is not sound.
 pub enum Scan {
@@ -130,7 +131,15 @@ fn take_cell(n: &[i32], k: usize, cells: usize, keys: &mut [u64], m: usize) -> b
 }
 
 // Marks the child of an inner entry k, if the entry is sound and the child was not met before.
-fn enter(t: &[i32], cells: usize, clock: i32, below: usize, n: &[i32], k: usize, marks: &mut [u8]) -> bool
+fn enter(
+    t: &[i32],
+    cells: usize,
+    clock: i32,
+    below: usize,
+    n: &[i32],
+    k: usize,
+    marks: &mut [u8],
+) -> bool
     requires { ⌜ (cells ≤ 65536) × (wordsFor cells ≤ length (now t)) × (k < fullNode) × (nodesFor cells ≤ length (now marks)) ⌝ }
     ensures { λ r. ⌜ Entered (entriesAt (now (t .entry))) (Counted (now (t .entry))) cells clock below (entryAt (now (n .entry)) k) (now (marks .entry)) r (now (marks .exit)) ⌝ }
 {
@@ -146,4 +155,50 @@ fn enter(t: &[i32], cells: usize, clock: i32, below: usize, n: &[i32], k: usize,
     }
     marks[c] = 1;
     true
+}
+
+// The pass over the entries of a node from entry k on, and over all beneath them. It marks the nodes met and gathers the
+// identifiers after the first m keys.
+pub fn pass(
+    t: &[i32],
+    cells: usize,
+    clock: i32,
+    height: usize,
+    node: usize,
+    k: usize,
+    marks: &mut [u8],
+    keys: &mut [u64],
+    m: usize,
+) -> Scan
+    requires { ⌜ Ready (now t) cells node (now marks) (now keys) m ⌝ }
+    ensures { λ r. ⌜ Outcome (entriesAt (now (t .entry))) (Counted (now (t .entry))) cells clock height (drop k (entriesAt (now (t .entry)) node)) (now (marks .entry)) (now (keys .entry)) m r (now (marks .exit)) (now (keys .exit)) ⌝ }
+{
+    let n = node_at(t, node);
+    if count(n) <= k {
+        return Scan::Passed(m);
+    }
+    if height == 0 {
+        if !take_cell(n, k, cells, &mut *keys, m) {
+            return Scan::Bad;
+        }
+        return pass(t, cells, clock, height, node, k + 1, marks, keys, m + 1);
+    }
+    if !enter(t, cells, clock, height - 1, n, k, &mut *marks) {
+        return Scan::Bad;
+    }
+    let below = child(n, k);
+    match pass(
+        t,
+        cells,
+        clock,
+        height - 1,
+        below,
+        0,
+        &mut *marks,
+        &mut *keys,
+        m,
+    ) {
+        Scan::Bad => Scan::Bad,
+        Scan::Passed(more) => pass(t, cells, clock, height, node, k + 1, marks, keys, more),
+    }
 }

@@ -1,5 +1,12 @@
 // Whether a table is sound.
+use crate::header::CELLS;
+use crate::header::NODES;
+use crate::header::header_sound;
+use crate::header::root_sound;
+use crate::scan::Scan;
 use crate::scan::node_at;
+use crate::scan::pass;
+use words::place_at;
 use words::word;
 ghost use mathlib.Core.Path.{_≡_};
 ghost use Prim.Native.Nat.{_≤_};
@@ -8,7 +15,8 @@ ghost use Rattle.whole.specs.Tells.{Tells};
 ghost use Rattle.whole.specs.Lists.{NoRepeat};
 ghost use Rattle.words.specs.Layout.{InTable};
 ghost use Rattle.table.specs.Header.{capacity, nodesFor, wordsFor};
-ghost use Rattle.table.specs.SoundBy.{FreeUnless, RestFree};
+ghost use Rattle.table.specs.Sound.{Sound};
+ghost use Rattle.table.specs.SoundBy.{FreeUnless, RestFree, HeaderSound, RootSound, Clear};
 
 // Whether node i is free, unless it has a mark.
 fn free_unless(t: &[i32], i: usize, mark: u8) -> bool
@@ -43,4 +51,54 @@ fn distinct(keys: &mut [u64]) -> bool
 {
     sort::sort(&mut *keys);
     sort::rises(keys)
+}
+
+// Whether a table whose header and root are sound is sound: one pass over the tree, then what it leaves.
+fn judged(t: &[i32], marks: &mut [u8], keys: &mut [u64]) -> bool
+    requires { ⌜ (HeaderSound (now t)) × (RootSound (now t)) × (Clear (now marks) (now keys)) ⌝ }
+    ensures { λ r. ⌜ Tells r (Sound (now (t .entry))) ⌝ }
+{
+    let cells = place_at(t, 0);
+    let root = place_at(t, 2);
+    marks[root] = 1;
+    match pass(
+        t,
+        cells,
+        word(t, 1),
+        place_at(t, 3),
+        root,
+        0,
+        &mut *marks,
+        &mut *keys,
+        0,
+    ) {
+        Scan::Bad => false,
+        Scan::Passed(m) => {
+            if !rest_free(t, cells / 2 + 1, marks) {
+                return false;
+            }
+            distinct(&mut keys[..m])
+        }
+    }
+}
+
+fn tree_sound(t: &[i32]) -> bool
+    requires { ⌜ (HeaderSound (now t)) × (RootSound (now t)) ⌝ }
+    ensures { λ r. ⌜ Tells r (Sound (now (t .entry))) ⌝ }
+{
+    let mut marks = [0u8; NODES];
+    let mut keys = [0u64; CELLS];
+    judged(t, &mut marks, &mut keys)
+}
+
+pub fn is_sound(t: &[i32]) -> bool
+    ensures { λ r. ⌜ Tells r (Sound (now (t .entry))) ⌝ }
+{
+    if !header_sound(t) {
+        return false;
+    }
+    if !root_sound(t) {
+        return false;
+    }
+    tree_sound(t)
 }

@@ -15,11 +15,11 @@ passed t e = t .sure (subst T (sym e) tt)
 pub failed : {b : Bool} {P : Type 0} → Tells b P → b ≡ false → P → ⊥
 failed t e p = subst T e (t .seen p)
 
-not-false : {b : Bool} → not b ≡ false → b ≡ true
+pub not-false : {b : Bool} → not b ≡ false → b ≡ true
 not-false {b = true} e = refl
 not-false {b = false} e = sym e
 
-not-true : {b : Bool} → not b ≡ true → b ≡ false
+pub not-true : {b : Bool} → not b ≡ true → b ≡ false
 not-true {b = true} e = sym e
 not-true {b = false} e = refl
 
