@@ -93,40 +93,40 @@ module _ {w : List ℤ} {k : Query} {r : Found} {keys : List ℕ} (g : Gathered 
   }
 
 -- ---- the answer to a query that was judged before
-abbrev pub judged : List ℤ → Asked → List ℤ → List Reason
-judged w a list = askedNumber a when (askedNumber a ≡ 0 → ⊥) ∷ tooMany w (askedQuery a) list
+abbrev pub judgedReasons : List ℤ → Asked → List ℤ → List Reason
+judgedReasons w a list = 1 when (Sound w → ⊥) ∷ askedNumber a when (askedNumber a ≡ 0 → ⊥) ∷ tooMany w (askedQuery a) list
 
-pub record CanAnswer (w : List ℤ) (a : Asked) : Type 0 where
-  pub sound : Sound w
+-- it was judged at the table's clock
+pub record Judged (w : List ℤ) (a : Asked) : Type 0 where
   pub query-in : TakenInRange a
   pub due : askedNumber a ≡ 0 → clock w ≤ℤ askedQuery a .start .at
   pub not-ten : askedNumber a ≡ 10 → ⊥
 
-module _ {w : List ℤ} {a : Asked} (can : CanAnswer w a) where
+pub answers-unsound : {w : List ℤ} (a : Asked) {list : List ℤ} → (Sound w → ⊥) → Answers (judgedReasons w a list) w (askedQuery a) list (Refused NotSound) list
+answers-unsound a n = record { refusal = inl (n, refl); accepted = not-zero 0; counted = λ e. absurd (omega arith); unchanged = λ m. refl }
+
+module _ {w : List ℤ} {a : Asked} (sound : Sound w) (j : Judged w a) where
   pub can-ask : {k : Query} → a ≡ asked.Taken k → CanAsk w k
-  can-ask e = by e can
-    where
-      by : {a : Asked} {k : Query} → a ≡ asked.Taken k → CanAnswer w a → CanAsk w k
-      by e can = let c = rw e at can in record { sound = c .sound; query-in = c .query-in refl; due = c .due refl }
+  can-ask e = let i = rw e at j in record { sound = sound; query-in = i .query-in refl; due = i .due refl }
 
   pub answers-taken : {k : Query} {list : List ℤ} {r : Answer} {list′ : List ℤ} → a ≡ asked.Taken k → Answers (tooMany w k list) w k list r list′
-      → Answers (judged w a list) w (askedQuery a) list r list′
-  answers-taken e h = rw e (record { refusal = inr (λ n. n refl, h .refusal); accepted = h .accepted; counted = h .counted; unchanged = h .unchanged })
+      → Answers (judgedReasons w a list) w (askedQuery a) list r list′
+  answers-taken e h = rw e (record { refusal = inr (λ n. n sound, inr (λ n. n refl, h .refusal)); accepted = h .accepted; counted = h .counted; unchanged = h .unchanged })
 
-  pub answers-refused : {why : Refusal} {list : List ℤ} → a ≡ asked.Refused why → Answers (judged w a list) w (askedQuery a) list (Refused why) list
+  pub answers-refused : {why : Refusal} {list : List ℤ} → a ≡ asked.Refused why → Answers (judgedReasons w a list) w (askedQuery a) list (Refused why) list
   answers-refused {why} e =
-      let other = rw e at (can .not-ten) in
+      let other = rw e at (j .not-ten) in
       rw e
       (record {
-        refusal = inl (refused-not-zero why, refl);
+        refusal = inr (λ n. n sound, inl (refused-not-zero why, refl));
         accepted = λ z. absurd (refused-not-zero why z);
         counted = λ t. absurd (other t);
         unchanged = λ n. refl;
       })
 
 -- ---- the answer of a call
-judged-not-ten : {now : ℤ} {Backward : Type 0} {k : Query} {a : Asked} → Asks now Backward k a → askedNumber a ≡ 10 → ⊥
-judged-not-ten {now} {Backward} {k} {a} s e = by (s .refusal)
+asked-not-ten : {now : ℤ} {Backward : Type 0} {k : Query} {a : Asked} → Asks now Backward k a → askedNumber a ≡ 10 → ⊥
+asked-not-ten {now} {Backward} {k} {a} s e = by (s .refusal)
   where
     by : First (queryReasons now Backward k) (askedNumber a) → ⊥
     by (inl h) = omega arith
@@ -141,39 +141,45 @@ not-before {s} {t} n = by (ltZ s t) refl
     by true e = absurd (n (ltZ-true e))
     by false e = ltZ-false e
 
-pub can-answer : {w : List ℤ} {Backward : Type 0} {k : Query} {a : Asked} → Sound w → Asks (clock w) Backward k a → CanAnswer w a
-can-answer {w} {Backward} {k} {a} sound s = record { sound = sound; query-in = taken-in-range s; due = in-time; not-ten = judged-not-ten s }
-  where
-    in-time : askedNumber a ≡ 0 → clock w ≤ℤ askedQuery a .start .at
-    in-time e =
-        let none = none-holds (queryReasons (clock w) Backward k) (askedNumber a) (not-zero 3, (not-zero 4, (not-zero 6, tt))) (s .refusal) e in
-        rw (s .query e) (not-before (none .1 .0))
+module _ {w : List ℤ} {Backward : Type 0} {k : Query} where
+  pub judged-of : {a : Asked} → Asks (clock w) Backward k a → Judged w a
+  judged-of {a} s = record { query-in = taken-in-range s; due = in-time; not-ten = asked-not-ten s }
+    where
+      in-time : askedNumber a ≡ 0 → clock w ≤ℤ askedQuery a .start .at
+      in-time e =
+          let none = none-holds (queryReasons (clock w) Backward k) (askedNumber a) (not-zero 3, (not-zero 4, (not-zero 6, tt))) (s .refusal) e in
+          rw (s .query e) (not-before (none .1 .0))
 
-pub queried-sound : {w : List ℤ} {Backward : Type 0} {k : Query} (a : Asked) {list : List ℤ} {r : Answer} {list′ : List ℤ} → Sound w → Asks (clock w) Backward k a
-    → Answers (judged w a list) w (askedQuery a) list r list′ → Queried w Backward k list r list′
-queried-sound {w} {Backward} {k} (asked.Taken q) {list} {r} {list′} sound s h =
-    let e : q ≡ k = s .query refl in
-    let j = rw e at h in
-    record {
-      refusal = inr (λ n. n sound, first-then (queryReasons (clock w) Backward k) (tooMany w k list) 0 (answerNumber r) (not-zero 3, (not-zero 4, (not-zero 6, tt))) (s .refusal) (j .refusal));
-      accepted = j .accepted;
-      counted = j .counted;
-      unchanged = j .unchanged;
-    }
-queried-sound {w} {Backward} {k} (asked.Refused why) {list} {r} {list′} sound s h =
-    record {
-      refusal = inr (λ n. n sound, first-then (queryReasons (clock w) Backward k) (tooMany w k list) (number why) (answerNumber r) (not-zero 3, (not-zero 4, (not-zero 6, tt))) (s .refusal) (inl (refused-not-zero why, same)));
-      accepted = λ z. absurd (refused-not-zero why (sym same ∙ z));
-      counted = λ t. absurd (judged-not-ten s (sym same ∙ t));
-      unchanged = h .unchanged;
-    }
-  where
-    same : answerNumber r ≡ number why
-    same = by (h .refusal)
-      where
-        by : First (judged w (asked.Refused why) list) (answerNumber r) → answerNumber r ≡ number why
-        by (inl f) = f .1
-        by (inr f) = absurd (f .0 (refused-not-zero why))
+  -- the reasons of the judging and of the answer, one after the other
+  all-reasons : {a : Asked} (list : List ℤ) (n : ℕ) → Asks (clock w) Backward k a → First (1 when (Sound w → ⊥) ∷ askedNumber a when (askedNumber a ≡ 0 → ⊥) ∷ tooMany w k list) n
+      → First (reasons w Backward k list) n
+  all-reasons list n s (inl h) = inl h
+  all-reasons {a} list n s (inr h) =
+      inr (h .0, first-then (queryReasons (clock w) Backward k) (tooMany w k list) (askedNumber a) n (not-zero 3, (not-zero 4, (not-zero 6, tt))) (s .refusal) (h .1))
 
-pub queried-unsound : {w : List ℤ} {Backward : Type 0} {k : Query} {list : List ℤ} → (Sound w → ⊥) → Queried w Backward k list (Refused NotSound) list
-queried-unsound n = record { refusal = inl (n, refl); accepted = not-zero 0; counted = λ e. absurd (omega arith); unchanged = λ m. refl }
+  pub queried : {a : Asked} {list : List ℤ} {r : Answer} {list′ : List ℤ} → Asks (clock w) Backward k a → Answers (judgedReasons w a list) w (askedQuery a) list r list′
+      → Queried w Backward k list r list′
+  queried {a = asked.Taken q} {list} {r} s h =
+      let j = rw (s .query refl) at h in
+      record { refusal = all-reasons list (answerNumber r) s (j .refusal); accepted = j .accepted; counted = j .counted; unchanged = j .unchanged }
+  queried {a = asked.Refused why} {list} {r} s h = record {
+    refusal = all-reasons list (answerNumber r) s (given (h .refusal));
+    accepted = λ z. absurd (not-zero-given (h .refusal) z);
+    counted = λ t. absurd (not-ten-given (h .refusal) t);
+    unchanged = h .unchanged;
+  }
+    where
+      given : First (judgedReasons w (asked.Refused why) list) (answerNumber r) → First (1 when (Sound w → ⊥) ∷ number why when (number why ≡ 0 → ⊥) ∷ tooMany w k list) (answerNumber r)
+      given (inl f) = inl f
+      given (inr (n, inl f)) = inr (n, inl f)
+      given (inr (n, inr f)) = absurd (f .0 (refused-not-zero why))
+
+      not-zero-given : First (judgedReasons w (asked.Refused why) list) (answerNumber r) → answerNumber r ≡ 0 → ⊥
+      not-zero-given (inl f) z = omega arith
+      not-zero-given (inr (n, inl f)) z = refused-not-zero why (sym (f .1) ∙ z)
+      not-zero-given (inr (n, inr f)) z = f .0 (refused-not-zero why)
+
+      not-ten-given : First (judgedReasons w (asked.Refused why) list) (answerNumber r) → answerNumber r ≡ 10 → ⊥
+      not-ten-given (inl f) t = omega arith
+      not-ten-given (inr (n, inl f)) t = asked-not-ten s (sym (f .1) ∙ t)
+      not-ten-given (inr (n, inr f)) t = f .0 (refused-not-zero why)

@@ -4,8 +4,10 @@ use crate::answer::Found;
 use crate::opening::open_entries;
 use sort::sort;
 use table::header::CELLS;
+use table::sound::is_sound;
 use track::query::Asked;
 use track::query::Query;
+use track::refusal::Refusal;
 use words::place_at;
 ghost use mathlib.Core.Path.{_≡_};
 ghost use mathlib.Core.List.{map, _++_};
@@ -16,7 +18,7 @@ ghost use Rattle.track.specs.Query.{askedQuery};
 ghost use Rattle.table.specs.Header.{greatestCapacity};
 ghost use Rattle.query.specs.Queried.{Answers};
 ghost use Rattle.query.specs.Gathering.{CanAsk, Gathered};
-ghost use Rattle.query.specs.Listing.{CanWrite, tooMany, judged, CanAnswer};
+ghost use Rattle.query.specs.Listing.{CanWrite, tooMany, Judged, judgedReasons};
 
 // Gathers the identifiers of the cells that meet the query, in rising order.
 fn gather(t: &[i32], k: Query, keys: &mut [u64]) -> Found
@@ -57,11 +59,14 @@ fn listed(t: &[i32], list: &mut [i32], k: Query) -> Answer
     Answer::Listed(found)
 }
 
-// The answer to a query that was judged.
+// The answer to a query that was judged at the table's clock.
 pub fn answered(t: &[i32], list: &mut [i32], asked: Asked) -> Answer
-    requires { ⌜ CanAnswer (now t) asked ⌝ }
-    ensures { λ r. ⌜ Answers (judged (now (t .entry)) asked (now (list .entry))) (now (t .entry)) (askedQuery asked) (now (list .entry)) r (now (list .exit)) ⌝ }
+    requires { ⌜ Judged (now t) asked ⌝ }
+    ensures { λ r. ⌜ Answers (judgedReasons (now (t .entry)) asked (now (list .entry))) (now (t .entry)) (askedQuery asked) (now (list .entry)) r (now (list .exit)) ⌝ }
 {
+    if !is_sound(t) {
+        return Answer::Refused(Refusal::NotSound);
+    }
     match asked {
         Asked::Taken(k) => listed(t, list, k),
         Asked::Refused(why) => Answer::Refused(why),
