@@ -97,9 +97,8 @@ impl Body {
 
     /// A row an axis: low and high edge at minute 0, low and high velocity.
     pub fn rows(rows: [[i32; 4]; 2], until: i32) -> Body {
-        let [x, y] = rows.map(|[low, high, slow, fast]| {
-            [Coordinate::of(low, slow, 0), Coordinate::of(high, fast, 0)]
-        });
+        let [x, y] =
+            rows.map(|[low, high, slow, fast]| [Coordinate::of(low, slow, 0), Coordinate::of(high, fast, 0)]);
         Body { x, y, until }
     }
 

@@ -158,8 +158,7 @@ impl Builder<'_> {
 }
 
 pub fn put_cell(words: &mut [i32], at: usize, cell: &Cell) {
-    words[at..at + cell::READ]
-        .copy_from_slice(&[cell.id, cell.x, cell.vx, cell.y, cell.vy, cell.expiry]);
+    words[at..at + cell::READ].copy_from_slice(&[cell.id, cell.x, cell.vx, cell.y, cell.vy, cell.expiry]);
 }
 
 /// Works out the inner entry from its child's entries at the stamp that it has: rows and expiry.

@@ -33,7 +33,7 @@ const fn among_others(
 
 pub const DAMAGES: &[Damage] = &[
     alone("N is 0", Clause::Capacity, |r| empty_of_capacity(r, 1, 0)),
-    alone("N is 257", Clause::Capacity, |r| capacity_257(r)),
+    alone("N is 257", Clause::Capacity, capacity_257),
     alone("N is -1", Clause::Capacity, |r| empty_of_capacity(r, 1, -1)),
     alone("N is the least number", Clause::Capacity, |r| empty_of_capacity(r, 1, i32::MIN)),
     among_others("N is the greatest number", Clause::Capacity, |r| empty_of_capacity(r, 256, i32::MAX)),
@@ -49,7 +49,9 @@ pub const DAMAGES: &[Damage] = &[
     alone("root is the greatest number", Clause::Root, |r| any_with(r, ROOT, i32::MAX)),
     among_others("root is a free node of an inner root's table", Clause::Count, root_is_free),
     alone("height -1", Clause::Height, |r| any_with(r, HEIGHT, -1)),
-    among_others("height one less: an inner node where a leaf is due", Clause::NotFree, |r| height_off(r, -1)),
+    among_others("height one less: an inner node where a leaf is due", Clause::NotFree, |r| {
+        height_off(r, -1)
+    }),
     among_others("height one more: a leaf where an inner node is due", Clause::Child, height_one_more),
     among_others("height far more", Clause::Count, height_far_more),
     alone("2 cells in a leaf below the root", Clause::Count, two_in_a_leaf),
@@ -66,6 +68,8 @@ pub const DAMAGES: &[Damage] = &[
     alone("a child reached twice", Clause::ReachedTwice, child_twice),
     among_others("a child of two parents", Clause::ReachedTwice, child_of_two),
     among_others("the root its own descendant", Clause::ReachedTwice, root_as_child),
+    among_others("the root its own descendant, for ever", Clause::ReachedTwice, root_as_child_for_ever),
+    alone("a chain of nodes, each with one child eight times", Clause::ReachedTwice, chain),
     alone("a child is the node past the last", Clause::Child, child_past_the_last),
     alone("a child is -1", Clause::Child, |r| child_is(r, -1)),
     alone("a child is the least number", Clause::Child, |r| child_is(r, i32::MIN)),
@@ -84,9 +88,9 @@ pub const DAMAGES: &[Damage] = &[
     alone("velocity -513", Clause::Velocity, |r| cell_word(r, &[cell::VX, cell::VY], &[-VELOCITY - 1])),
     among_others("stale above a replaced cell", Clause::EntryVelocity, |r| stale(r, 0)),
     among_others("stale two levels above a replaced cell", Clause::EntryVelocity, |r| stale(r, 1)),
-    alone("edges kept as at the stamp", Clause::EntryEdge, |r| edges_kept_as_at(r, |words, at| {
-        words[at + inner::STAMP]
-    })),
+    alone("edges kept as at the stamp", Clause::EntryEdge, |r| {
+        edges_kept_as_at(r, |words, at| words[at + inner::STAMP])
+    }),
     alone("edges kept as at the clock", Clause::EntryEdge, |r| edges_kept_as_at(r, |words, _| words[CLOCK])),
     alone("edges worked out at the clock, the stamp left", Clause::EntryEdge, stamp_left_behind),
     alone("an edge one off", Clause::EntryEdge, edge_one_off),
@@ -121,7 +125,11 @@ fn tree(random: &mut Random, least: usize) -> Vec<i32> {
     let fewest = fewest_cells(height) as i32;
     let capacity = random.one_of(&CAPACITIES).max(fewest + random.between(0, 3)).min(LARGEST);
     let most = capacity.min(most_cells(height) as i32);
-    let count = if random.coin() { random.between(fewest, most) } else { random.between(fewest, (fewest + 9).min(most)) };
+    let count = if random.coin() {
+        random.between(fewest, most)
+    } else {
+        random.between(fewest, (fewest + 9).min(most))
+    };
     draw_with(random, capacity, count as usize, Some(height)).words
 }
 
@@ -372,6 +380,34 @@ fn root_as_child(random: &mut Random) -> Option<Vec<i32>> {
     let mut words = tree(random, 1);
     let inner = any_inner(random, &words)?;
     words[inner.at + inner::CHILD] = words[ROOT];
+    Some(words)
+}
+
+/// As many levels as there are numbers: a walk that only counts them down takes for ever.
+fn root_as_child_for_ever(random: &mut Random) -> Option<Vec<i32>> {
+    let mut words = root_as_child(random)?;
+    words[HEIGHT] = i32::MAX;
+    Some(words)
+}
+
+/// Every entry is worked out rightly, and there are few nodes: but there are eight times as many
+/// ways to a node as to the one above it.
+fn chain(random: &mut Random) -> Option<Vec<i32>> {
+    let capacity = random.one_of(&CAPACITIES).max(4);
+    let mut words = draw_with(random, capacity, FEWEST, Some(0)).words;
+    let clock = words[CLOCK];
+    let free = reading::free_nodes(&words);
+    for (height, &node) in free.iter().enumerate() {
+        for place in 0..FULL {
+            let at = entry_at(node, place);
+            words[at + inner::CHILD] = words[ROOT];
+            words[at + inner::STAMP] = clock;
+            work_out(&mut words, at, height);
+        }
+        words[node_at(node)] = FULL as i32;
+        words[ROOT] = node as i32;
+    }
+    words[HEIGHT] = free.len() as i32;
     Some(words)
 }
 

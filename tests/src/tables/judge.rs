@@ -5,6 +5,32 @@ use super::layout::*;
 use crate::question::{MINUTE, VELOCITY};
 use std::collections::BTreeSet;
 
+/// Every clause, in the order of `Clause`.
+pub const CLAUSES: [Clause; Clause::StampBelowZero as usize + 1] = [
+    Clause::Capacity,
+    Clause::Words,
+    Clause::Clock,
+    Clause::Root,
+    Clause::Height,
+    Clause::Count,
+    Clause::Child,
+    Clause::ReachedTwice,
+    Clause::NotFree,
+    Clause::Identifier,
+    Clause::Position,
+    Clause::Velocity,
+    Clause::Expiry,
+    Clause::TooMany,
+    Clause::IdentifierTwice,
+    Clause::EntryVelocity,
+    Clause::EntryEdge,
+    Clause::EdgeRange,
+    Clause::GreatestExpiry,
+    Clause::StampAfterClock,
+    Clause::StampBeforeBeneath,
+    Clause::StampBelowZero,
+];
+
 /// What can be wrong with a table.
 #[derive(Clone, Copy, Debug, PartialEq, Eq, PartialOrd, Ord)]
 pub enum Clause {

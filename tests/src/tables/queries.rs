@@ -3,9 +3,7 @@
 use super::builder::Table;
 use super::reading;
 use super::scan::Asked;
-use crate::question::{
-    Kind, Query, Rectangle, MINUTE, POSITION, QUERY_AT, QUERY_NUMBERS, RANGES,
-};
+use crate::question::{Kind, Query, Rectangle, MINUTE, POSITION, QUERY_AT, QUERY_NUMBERS, RANGES};
 use crate::random::Random;
 use crate::refusal::{BACKWARD, OUT_OF_RANGE, TOO_EARLY};
 
@@ -46,9 +44,8 @@ fn fitted(mut query: Query, kind: Kind) -> Query {
 
 fn anywhere(random: &mut Random, clock: i32) -> Query {
     let (start, end) = random.ordered(clock, MINUTE);
-    let mut rectangle = || {
-        Rectangle::of(random.ordered(-POSITION, POSITION), random.ordered(-POSITION, POSITION))
-    };
+    let mut rectangle =
+        || Rectangle::of(random.ordered(-POSITION, POSITION), random.ordered(-POSITION, POSITION));
     Query { start, end, first: rectangle(), last: rectangle() }
 }
 

@@ -13,8 +13,8 @@ use crate::tables::worlds::Cell;
 use crate::tally::Tally;
 
 const CAPACITIES: [i32; 10] = [1, 2, 3, 7, 8, 9, 16, 40, 255, 256];
-const TABLES: u32 = 60;
-const QUERIES: u32 = 25;
+const TABLES: u32 = 100;
+const QUERIES: u32 = 40;
 
 pub fn run(library: &Library, tally: &mut Tally) {
     for (place, capacity) in CAPACITIES.into_iter().enumerate() {
@@ -110,7 +110,7 @@ fn describe(table: &Table, asked: &Asked, truth: &Truth, family: &mut Family) {
 /// Any set of reasons at once, a list that is too short among them.
 fn order_agrees(library: &Library, kind: Kind, random: &mut Random) -> bool {
     let mut family = Family::named(format!("{kind:?}, several refusals"));
-    for _ in 0..20 * TABLES {
+    for _ in 0..10 * TABLES {
         let capacity = random.one_of(&CAPACITIES[..8]);
         let table = draw(random, capacity);
         let mut lent = Lent::of(random, &table.words);
@@ -125,7 +125,8 @@ fn order_agrees(library: &Library, kind: Kind, random: &mut Random) -> bool {
             family.note(library.differs(&mut lent, &mut list, &asked, &truth));
         }
     }
-    let numbers = [0, OUT_OF_RANGE, TOO_EARLY, BACKWARD, LIST_TOO_SHORT].map(|number| format!("number {number}"));
+    let numbers =
+        [0, OUT_OF_RANGE, TOO_EARLY, BACKWARD, LIST_TOO_SHORT].map(|number| format!("number {number}"));
     let mut meant: Vec<&str> = numbers.iter().map(String::as_str).collect();
     meant.extend(["4 before 5", "5 before 7"]);
     family.holds(&meant, 100)

@@ -5,7 +5,7 @@ use crate::question::{Query, Rectangle, MINUTE, POSITION};
 use crate::random::Random;
 use crate::refusal::{BACKWARD, OUT_OF_RANGE, TOO_EARLY, UNSOUND};
 use crate::tables::damage::{Damage, DAMAGES};
-use crate::tables::judge;
+use crate::tables::judge::{self, Clause};
 use crate::tables::layout::CLOCK;
 use crate::tables::library::{Lent, Library};
 use crate::tables::queries::{spoiled_by, KINDS};
@@ -21,6 +21,21 @@ pub fn run(library: &Library, tally: &mut Tally) {
         let mut random = Random::seeded(0x5000 + place as u64);
         tally.check(refused(library, damage, &mut random));
     }
+    tally.check(every_clause_is_broken());
+}
+
+/// By some damage, and alone but for the range of edges: an edge out of it can't be right either.
+fn every_clause_is_broken() -> bool {
+    let mut family = Family::named("clauses broken by a damage of their own");
+    for clause in judge::CLAUSES {
+        let alone = |damage: &Damage| damage.breaks == clause && damage.alone;
+        match DAMAGES.iter().any(alone) {
+            true => family.count("alone"),
+            false if clause == Clause::EdgeRange => family.count("with another"),
+            false => family.wrong(format!("{clause:?} is broken by none")),
+        }
+    }
+    family.holds(&["alone", "with another"], 1)
 }
 
 fn refused(library: &Library, damage: &Damage, random: &mut Random) -> bool {

@@ -24,7 +24,8 @@ pub fn run(library: &Library, tally: &mut Tally) {
         let words = random.rubbish_words(length);
         make(library, capacity, &words, &mut random, &mut family);
     }
-    let meant = ["made", "made in just enough words", "refused by 2", "refused by 3", "refused by 3 for one word"];
+    let meant =
+        ["made", "made in just enough words", "refused by 2", "refused by 3", "refused by 3 for one word"];
     tally.check(family.holds(&meant, 50));
 }
 

@@ -13,9 +13,9 @@ use crate::tables::reading;
 use crate::tables::scan::{truth, Truth};
 use crate::tally::Tally;
 
-const RANDOM: u32 = 6_000;
-const CHANGED_TABLES: u32 = 400;
-const CHANGES: u32 = 80;
+const RANDOM: u32 = 10_000;
+const CHANGED_TABLES: u32 = 600;
+const CHANGES: u32 = 100;
 const LONGEST: usize = 13_000;
 
 pub fn run(library: &Library, tally: &mut Tally) {
