@@ -1,7 +1,7 @@
 //! Writes sound tables: any tree that the rules allow, not only one that a call would make.
 
 use super::layout::*;
-use super::worlds::{Cell, World, WORLDS};
+use super::worlds::{Cell, WORLDS};
 use crate::random::Random;
 
 pub struct Plan {
@@ -19,7 +19,6 @@ pub struct Table {
     pub cells: Vec<Cell>,
     pub clock: i32,
     pub height: usize,
-    pub world: World,
 }
 
 /// The heights that a tree of so many cells can have.
@@ -58,7 +57,7 @@ pub fn draw_with(random: &mut Random, capacity: i32, count: usize, height: Optio
     let cells = world.cells(random, count, clock);
     let extra = random.one_of(&[0, 0, 1, 50, 96, 200]) as usize;
     let words = build(random, &Plan { capacity, clock, height, cells: cells.clone(), extra });
-    Table { words, cells, clock, height, world }
+    Table { words, cells, clock, height }
 }
 
 pub fn build(random: &mut Random, plan: &Plan) -> Vec<i32> {

@@ -49,11 +49,9 @@ pub const DAMAGES: &[Damage] = &[
     alone("root is the greatest number", Clause::Root, |r| any_with(r, ROOT, i32::MAX)),
     among_others("root is a free node of an inner root's table", Clause::Count, root_is_free),
     alone("height -1", Clause::Height, |r| any_with(r, HEIGHT, -1)),
-    among_others("height one less: an inner node where a leaf is due", Clause::NotFree, |r| {
-        height_off(r, -1)
-    }),
+    among_others("height one less: an inner node where a leaf is due", Clause::NotFree, height_one_less),
     among_others("height one more: a leaf where an inner node is due", Clause::Child, height_one_more),
-    among_others("height far more", Clause::Count, height_far_more),
+    among_others("an empty root that is no leaf", Clause::Count, empty_and_no_leaf),
     alone("2 cells in a leaf below the root", Clause::Count, two_in_a_leaf),
     alone("2 entries in an inner node below the root", Clause::Count, two_in_an_inner_node),
     alone("1 entry in an inner root", Clause::Count, |r| inner_root_cut(r, 1)),
@@ -107,7 +105,7 @@ pub const DAMAGES: &[Damage] = &[
 const CAPACITIES: [i32; 10] = [1, 2, 3, 7, 8, 9, 16, 40, 255, 256];
 
 /// A sound table of any capacity and height.
-pub fn any(random: &mut Random) -> Vec<i32> {
+fn any(random: &mut Random) -> Vec<i32> {
     let capacity = random.one_of(&CAPACITIES);
     draw(random, capacity).words
 }
@@ -235,9 +233,9 @@ fn root_is_free(random: &mut Random) -> Option<Vec<i32>> {
     Some(words)
 }
 
-fn height_off(random: &mut Random, by: i32) -> Option<Vec<i32>> {
+fn height_one_less(random: &mut Random) -> Option<Vec<i32>> {
     let mut words = tree(random, 1);
-    words[HEIGHT] += by;
+    words[HEIGHT] -= 1;
     Some(words)
 }
 
@@ -251,15 +249,10 @@ fn height_one_more(random: &mut Random) -> Option<Vec<i32>> {
     Some(words)
 }
 
-fn height_far_more(random: &mut Random) -> Option<Vec<i32>> {
-    let height = random.one_of(&[100, 1_000_000, i32::MAX]);
-    leaf_root_empty_with_height(random, height)
-}
-
-fn leaf_root_empty_with_height(random: &mut Random, height: i32) -> Option<Vec<i32>> {
+fn empty_and_no_leaf(random: &mut Random) -> Option<Vec<i32>> {
     let capacity = random.one_of(&CAPACITIES);
     let mut words = draw_with(random, capacity, 0, None).words;
-    words[HEIGHT] = height;
+    words[HEIGHT] = random.one_of(&[1, 100, 1_000_000, i32::MAX]);
     Some(words)
 }
 

@@ -10,7 +10,6 @@ use crate::tables::library::{Lent, Library};
 use crate::tables::queries::{accepted, KINDS};
 use crate::tables::reading;
 use crate::tables::scan::Truth;
-use crate::tables::worlds::World;
 use crate::tally::Tally;
 
 const CALLS: u32 = 6_000;
@@ -96,7 +95,7 @@ fn is_empty(library: &Library, capacity: i32, words: &[i32], random: &mut Random
         family.wrong(format!("not fresh, for {capacity} cells"));
         return;
     }
-    let table = Table { words: words.to_vec(), cells: Vec::new(), clock: 0, height: 0, world: World::Plane };
+    let table = Table { words: words.to_vec(), cells: Vec::new(), clock: 0, height: 0 };
     let mut lent = Lent::of(random, words);
     for kind in KINDS {
         let asked = accepted(random, &table, kind);
