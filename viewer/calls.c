@@ -186,6 +186,8 @@ static void check_queries(void)
 
 int main(void)
 {
+    /* A failure is printed even if the sanitizer ends the program after it. */
+    setvbuf(stdout, NULL, _IOLBF, BUFSIZ);
     static const int32_t capacities[] = {1, 2, 3, CELLS, 255, 256};
     for (size_t i = 0; i < sizeof capacities / sizeof capacities[0]; i++) {
         size_t need = BRADAWLET_WORDS(capacities[i]);
