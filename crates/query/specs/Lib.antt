@@ -6,3 +6,4 @@ pub mod Finding
 pub mod Opening
 pub mod Gathering
 pub mod Listing
+pub mod Few
