@@ -5,4 +5,5 @@ pub mod QueriedLaws
 pub mod Finding
 pub mod Opening
 pub mod Gathering
-pub mod Listing
+pub mod Writing
+pub mod Answering
