@@ -1,5 +1,5 @@
 -- What a walk over the opened nodes finds: the leaf entries that meet the query, and no others.
-use mathlib.Core.Path.{_≡_, refl, sym, ap, _∙_}
+use mathlib.Core.Path.{_≡_, refl, ap}
 use mathlib.Core.Bool.{true, false}
 use mathlib.Core.List.{List, [], _∷_, _++_, flatMap, List·Memᴰ·head, List·Memᴰ·not-nil, List·Memᴰ·eq-of-singleton}
 use Prim.Native.Nat.{ℕ, zero, suc, _+_, _≤_}
@@ -14,7 +14,7 @@ use Rattle.node.specs.Entry.{Entry, cellOf, childOf, boundsOf, untilOf}
 use Rattle.table.specs.Tree.{Nodes, leavesOf, nodesOf, TreeSound}
 use Rattle.table.specs.Reach.{flat-in, in-flat, leaf-down, leaf-up}
 use Rattle.table.specs.Covers.{covers-cell}
-use Rattle.query.specs.Opened.{EntryMeets, entryMeets?, onlyIf, openedBy, openedIn}
+use Rattle.query.specs.Opened.{entryMeets?, onlyIf, openedBy, openedIn}
 
 -- the leaf entries found through an entry of a node that has h levels beneath it
 unfoldable pub foundBy : Nodes → Query → ℕ → Entry → List Entry

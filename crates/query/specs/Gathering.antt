@@ -1,13 +1,13 @@
 -- From the walk to the hits: the keys that it gathers, once they are sorted, are the identifiers that the query lists.
 use mathlib.Core.Path.{_≡_, refl, sym, ap, _∙_, subst}
-use mathlib.Core.List.{List, [], _∷_, _++_, map, map-append, Memᴰ·map, Memᴰ·of-map}
-use Prim.Native.Nat.{ℕ, _+_, _*_, _^_, _≤_, _<_}
+use mathlib.Core.List.{List, _++_, map, map-append, Memᴰ·map, Memᴰ·of-map}
+use Prim.Native.Nat.{ℕ, _+_, _^_, _≤_, _<_}
 use native.Mathlib.Omega.{arith}
 use lib.Dec.{lt→ltb, leb→le}
 use lib.IntN.{ℤ, pos}
-use lib.ListN.{length, getD, take, drop, length-map, length-append, length-take}
+use lib.ListN.{length, getD, take, drop, length-map, length-append}
 use lib.Seq.{length-take-le, getD-take}
-use lib.Signed.{_≤ℤ_, _<ℤ_, leZ-yes, ltZ-yes}
+use lib.Signed.{_≤ℤ_, _<ℤ_, leZ-yes}
 use Rattle.whole.specs.Lists.{_∈_, at-in, NoRepeat}
 use Rattle.whole.specs.Order.{≤ℤ-trans}
 use Rattle.whole.specs.Rising.{Rising, rising-none, rising-one, rising-more}
@@ -23,8 +23,8 @@ use Rattle.track.specs.declared.query.Query.{Query}
 use Rattle.node.specs.Entry.{Entry, cellOf}
 use Rattle.table.specs.Header.{capacity, clock, root, height, greatestCapacity, entriesAt}
 use Rattle.table.specs.HeaderLaws.{capacity-low}
-use Rattle.table.specs.Tree.{leavesOf, nodesOf}
-use Rattle.table.specs.Sound.{Sound, held}
+use Rattle.table.specs.Tree.{leavesOf}
+use Rattle.table.specs.Sound.{Sound}
 use Rattle.table.specs.Scan.{keyOf, leaves-in, sound-in}
 use Rattle.table.specs.ScanParts.{node-in-table}
 use Rattle.table.specs.SoundBy.{cells-in, keys-once}

@@ -5,5 +5,6 @@ pub mod QueriedLaws
 pub mod Finding
 pub mod Opening
 pub mod Gathering
-pub mod Listing
+pub mod Writing
+pub mod Answering
 pub mod Few

@@ -1,12 +1,12 @@
 -- The hits are fixed by the table and the query; the answer and the list by the table, the arguments and the list before.
 use mathlib.Core.Path.{_≡_, refl, sym, ap, ap₂, _∙_}
-use mathlib.Core.Logic.{_⊎_, inl, inr}
+use mathlib.Core.Logic.{inl, inr}
 use mathlib.Core.List.{List, [], _∷_, _++_}
 use Prim.Native.Nat.{ℕ, _-_, _<_}
 use native.Mathlib.Decide.{ℕ-discrete}
 use native.Mathlib.Omega.{arith}
 use lib.IntN.{ℤ}
-use lib.ListN.{length, drop, getD}
+use lib.ListN.{length, getD}
 use Rattle.whole.specs.Rising.{<ℤ-same}
 use Rattle.track.specs.Query.{queryReasons}
 use Rattle.track.specs.Refusals.{First, _when_, first-fixed, number, refused-not-zero}
@@ -15,8 +15,7 @@ use Rattle.track.specs.declared.refusal.Refusal.{Refusal}
 use Rattle.track.specs.declared.refusal.Refusal.the-variants.{NotSound, BadCapacity, ShortTable, OutOfRange, BeforeClock, ExpiresFirst, Backward, NotLive, Full, ShortList, BadHeader, BadRecord, ShortBytes}
 use Rattle.table.specs.Header.{clock}
 use Rattle.query.specs.Hits.{Hits, MoreHits}
-use Rattle.query.specs.Opened.{openedNodes}
-use Rattle.query.specs.Queried.{answerNumber, answerHits, answerOpened, reasons, Lists, Counts, Queried}
+use Rattle.query.specs.Queried.{answerNumber, answerHits, answerOpened, reasons, Queried}
 use Rattle.query.specs.declared.answer.Found.{Found}
 use Rattle.query.specs.declared.answer.Answer.{Answer}
 use Rattle.query.specs.declared.answer.Answer.the-variants.{Listed, TooMany, Refused}

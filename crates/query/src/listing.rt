@@ -18,7 +18,8 @@ ghost use Rattle.track.specs.Query.{askedQuery};
 ghost use Rattle.table.specs.Header.{greatestCapacity};
 ghost use Rattle.query.specs.Queried.{Answers};
 ghost use Rattle.query.specs.Gathering.{CanAsk, Gathered};
-ghost use Rattle.query.specs.Listing.{CanWrite, tooMany, Judged, judgedReasons};
+ghost use Rattle.query.specs.Writing.{CanWrite};
+ghost use Rattle.query.specs.Answering.{tooMany, Judged, judgedReasons};
 
 // Gathers the identifiers of the cells that meet the query, in rising order.
 fn gather(t: &[i32], k: Query, keys: &mut [u64]) -> Found

@@ -10,7 +10,7 @@ use track::meeting::meets;
 use track::query::Query;
 use words::place;
 ghost use mathlib.Core.Path.{_≡_};
-ghost use Prim.Native.Nat.{_<_, _^_};
+ghost use Prim.Native.Nat.{_<_};
 ghost use lib.ListN.{drop};
 ghost use Rattle.whole.specs.Tells.{Tells};
 ghost use Rattle.words.specs.Layout.{entryAt, fullNode};

@@ -5,7 +5,7 @@ use mir.Val.{toZ, ofZ}
 use Rattle.whole.specs.Within.{back, word-back}
 use Rattle.track.specs.Query.{Asks, queryFrom}
 use Rattle.table.specs.Header.{clock}
-use Rattle.query.specs.Listing.{judged-of, queried}
+use Rattle.query.specs.Answering.{judged-of, queried}
 use borrow.Author.Needs.{needs}
 use Rattle.query.proofs.moving.Statement.{statement}
 use Rattle.query.proofs.moving.Tie as tie

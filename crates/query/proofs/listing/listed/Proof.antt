@@ -1,5 +1,4 @@
-use native.Mathlib.Omega.{arith}
-use Rattle.query.specs.Listing.{can-write, answers-too-many, answers-listed}
+use Rattle.query.specs.Answering.{can-write, answers-too-many, answers-listed}
 use borrow.Author.Needs.{needs}
 use Rattle.query.proofs.listing.listed.Statement.{statement}
 use Rattle.query.proofs.listing.listed.Tie as tie

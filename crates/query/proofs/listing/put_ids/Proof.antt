@@ -1,10 +1,9 @@
 use Prim.Native.Nat.{_-_, _^_, _<_}
-use native.Mathlib.Omega.{arith}
 use lib.ListN.{getD}
 use mir.Syntax.{w32}
 use borrow.Author.Needs.{needs}
 use Rattle.whole.specs.Within.{read-nat}
-use Rattle.query.specs.Listing.{Written, written-none, written-next, written-all}
+use Rattle.query.specs.Writing.{Written, written-none, written-next, written-all}
 use Rattle.query.proofs.listing.put_ids.Statement.{statement}
 use Rattle.query.proofs.listing.put_ids.Tie as tie
 

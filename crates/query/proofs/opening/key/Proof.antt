@@ -1,5 +1,4 @@
-use mathlib.Core.Path.{_≡_, ap, _∙_}
-use lib.IntN.{ℤ}
+use mathlib.Core.Path.{ap, _∙_}
 use mir.Syntax.{w32}
 use Rattle.whole.specs.Within.{back}
 use Rattle.words.specs.Words.{natOf}

@@ -1,19 +1,18 @@
--- The list that a query leaves: the loop that writes it, and one law for each way through the code.
-use mathlib.Core.Path.{_≡_, refl, sym, ap, _∙_, subst}
+-- From the gathered hits to the answer: one law for each way through the code.
+use mathlib.Core.Path.{_≡_, refl, sym, _∙_}
 use mathlib.Core.Bool.{Bool, true, false}
-use mathlib.Core.Logic.{_⊎_, inl, inr, ⊎-elim}
-use mathlib.Core.List.{List, [], _∷_, _++_, map, map-append, append-assoc}
-use Prim.Native.Nat.{ℕ, suc, _+_, _^_, _≤_, _<_}
-use native.Mathlib.Numerals.{add-one}
+use mathlib.Core.Logic.{inl, inr}
+use mathlib.Core.List.{List, [], _∷_, _++_, map}
+use Prim.Native.Nat.{ℕ, _+_, _≤_, _<_}
 use native.Mathlib.Omega.{arith}
 use lib.IntN.{ℤ, pos}
-use lib.ListN.{length, getD, set, take, drop, length-map, length-set}
-use lib.Seq.{take-suc, drop-cons, set-at, length-take-le}
+use lib.ListN.{length, take, drop, length-map}
+use lib.Seq.{length-take-le}
 use lib.Signed.{_≤ℤ_, _<ℤ_, ltZ}
 use Rattle.whole.specs.Order.{ltZ-true, ltZ-false}
 use Rattle.track.specs.Accepted.{TakenInRange, taken-in-range}
 use Rattle.track.specs.Query.{queryReasons, askedNumber, askedQuery, Asks}
-use Rattle.track.specs.Refusals.{Reason, _when_, First, none-holds, first-then, not-zero, number, refused-not-zero}
+use Rattle.track.specs.Refusals.{Reason, _when_, First, NoneZero, none-holds, first-then, not-zero, number, refused-not-zero}
 use Rattle.track.specs.declared.query.Query.{Query}
 use Rattle.track.specs.declared.query.Asked.{Asked}
 use Rattle.track.specs.declared.query.Asked.the-variants as asked
@@ -21,43 +20,14 @@ use Rattle.track.specs.declared.refusal.Refusal.{Refusal}
 use Rattle.track.specs.declared.refusal.Refusal.the-variants.{NotSound}
 use Rattle.table.specs.Header.{clock}
 use Rattle.table.specs.Sound.{Sound}
-use Rattle.query.specs.Opened.{openedNodes}
-use Rattle.query.specs.Hits.{Hits, MoreHits}
-use Rattle.query.specs.Queried.{answerNumber, answerHits, answerOpened, reasons, Lists, Counts, Answers, Queried}
+use Rattle.query.specs.Hits.{MoreHits}
+use Rattle.query.specs.Queried.{answerNumber, reasons, Answers, Queried}
 use Rattle.query.specs.QueriedLaws.{hits-length}
+use Rattle.query.specs.Writing.{CanWrite}
 use Rattle.query.specs.Gathering.{CanAsk, Gathered, key-small}
 use Rattle.query.specs.declared.answer.Found.{Found}
 use Rattle.query.specs.declared.answer.Answer.{Answer}
 use Rattle.query.specs.declared.answer.Answer.the-variants.{Listed, TooMany, Refused}
-
--- ---- the first m keys written to the list's first places
-pub record CanWrite (list : List ℤ) (keys : List ℕ) (m : ℕ) : Type 0 where
-  pub fits : m ≤ length list
-  pub inside : m ≤ length keys
-  pub small : (i : ℕ) → i < m → getD keys i 0 < 2 ^ 31
-
--- the first j of them are written to `list`, which made it t
-pub record Written (list : List ℤ) (keys : List ℕ) (t : List ℤ) (m j : ℕ) : Type 0 where
-  pub upto : j ≤ m
-  pub long : length t ≡ length list
-  pub is : t ≡ map pos (take j keys) ++ drop j list
-
-pub written-none : (list : List ℤ) (keys : List ℕ) (m : ℕ) → Written list keys list m 0
-written-none list keys m = record { upto = omega arith; long = refl; is = refl }
-
-pub written-next : {list : List ℤ} {keys : List ℕ} {t : List ℤ} {m j : ℕ} → CanWrite list keys m → Written list keys t m j → j < m
-    → Written list keys (set t j (pos (getD keys j 0))) m (j + 1)
-written-next {list} {keys} {t} {m} {j} can so-far lt = record {
-  upto = omega arith;
-  long = simp length-set (so-far .long);
-  is =
-      rw (so-far .is, drop-cons list j (pos 0) (omega (arith, can .fits)), add-one j, take-suc keys j 0 (omega (arith, can .inside)), map-append)
-      (set-at (map pos (take j keys)) (getD list j (pos 0)) (drop (suc j) list) (pos (getD keys j 0)) j (length-map (take j keys) pos ∙ length-take-le j keys (omega (arith, can .inside)))
-      ∙ sym (append-assoc (map pos (take j keys)) (pos (getD keys j 0) ∷ []) (drop (suc j) list)));
-}
-
-pub written-all : {list : List ℤ} {keys : List ℕ} {t : List ℤ} {m j : ℕ} → Written list keys t m j → m ≤ j → t ≡ map pos (take m keys) ++ drop m list
-written-all {m} {j} so-far le = let e : j ≡ m = omega (arith, so-far .upto) in rw e at (so-far .is)
 
 -- ---- the answer to a query that may be asked
 abbrev pub tooMany : List ℤ → Query → List ℤ → List Reason
@@ -125,6 +95,9 @@ module _ {w : List ℤ} {a : Asked} (sound : Sound w) (j : Judged w a) where
       })
 
 -- ---- the answer of a call
+none-zero : (now : ℤ) (Backward : Type 0) (k : Query) → NoneZero (queryReasons now Backward k)
+none-zero now Backward k = (not-zero 3, (not-zero 4, (not-zero 6, tt)))
+
 asked-not-ten : {now : ℤ} {Backward : Type 0} {k : Query} {a : Asked} → Asks now Backward k a → askedNumber a ≡ 10 → ⊥
 asked-not-ten {now} {Backward} {k} {a} s e = by (s .refusal)
   where
@@ -147,7 +120,7 @@ module _ {w : List ℤ} {Backward : Type 0} {k : Query} where
     where
       in-time : askedNumber a ≡ 0 → clock w ≤ℤ askedQuery a .start .at
       in-time e =
-          let none = none-holds (queryReasons (clock w) Backward k) (askedNumber a) (not-zero 3, (not-zero 4, (not-zero 6, tt))) (s .refusal) e in
+          let none = none-holds (queryReasons (clock w) Backward k) (askedNumber a) (none-zero (clock w) Backward k) (s .refusal) e in
           rw (s .query e) (not-before (none .1 .0))
 
   -- the reasons of the judging and of the answer, one after the other
@@ -155,7 +128,7 @@ module _ {w : List ℤ} {Backward : Type 0} {k : Query} where
       → First (reasons w Backward k list) n
   all-reasons list n s (inl h) = inl h
   all-reasons {a} list n s (inr h) =
-      inr (h .0, first-then (queryReasons (clock w) Backward k) (tooMany w k list) (askedNumber a) n (not-zero 3, (not-zero 4, (not-zero 6, tt))) (s .refusal) (h .1))
+      inr (h .0, first-then (queryReasons (clock w) Backward k) (tooMany w k list) (askedNumber a) n (none-zero (clock w) Backward k) (s .refusal) (h .1))
 
   pub queried : {a : Asked} {list : List ℤ} {r : Answer} {list′ : List ℤ} → Asks (clock w) Backward k a → Answers (judgedReasons w a list) w (askedQuery a) list r list′
       → Queried w Backward k list r list′
