@@ -84,8 +84,10 @@ pub const DAMAGES: &[Damage] = &[
     alone("kept position -837,281", Clause::Position, |r| cell_word(r, &[cell::X, cell::Y], &[-KEPT - 1])),
     alone("velocity 513", Clause::Velocity, |r| cell_word(r, &[cell::VX, cell::VY], &[VELOCITY + 1])),
     alone("velocity -513", Clause::Velocity, |r| cell_word(r, &[cell::VX, cell::VY], &[-VELOCITY - 1])),
-    among_others("stale above a replaced cell", Clause::EntryVelocity, |r| stale(r, 0)),
-    among_others("stale two levels above a replaced cell", Clause::EntryVelocity, |r| stale(r, 1)),
+    among_others("stale above a faster cell", Clause::EntryVelocity, |r| stale(r, 0, faster)),
+    among_others("stale two levels above a faster cell", Clause::EntryVelocity, |r| stale(r, 1, faster)),
+    alone("stale above a cell one farther", Clause::EntryEdge, |r| stale(r, 0, one_farther)),
+    alone("stale two levels above a cell one farther", Clause::EntryEdge, |r| stale(r, 1, one_farther)),
     alone("edges kept as at the stamp", Clause::EntryEdge, |r| {
         edges_kept_as_at(r, |words, at| words[at + inner::STAMP])
     }),
@@ -459,9 +461,9 @@ fn one_too_many(random: &mut Random) -> Option<Vec<i32>> {
     Some(draw_with(random, capacity, capacity as usize + 1, None).words)
 }
 
-/// A cell is replaced by one that is faster than any beneath the entry, which so many levels above
-/// it still is as it was.
-fn stale(random: &mut Random, levels: usize) -> Option<Vec<i32>> {
+/// A cell is replaced by one that the entry does not cover, which so many levels above it still is
+/// as it was.
+fn stale(random: &mut Random, levels: usize, replace: Replace) -> Option<Vec<i32>> {
     let mut words = tree(random, levels + 1);
     let mut entries = reading::inners(&words);
     entries.retain(|inner| inner.child.height == levels);
@@ -470,17 +472,31 @@ fn stale(random: &mut Random, levels: usize) -> Option<Vec<i32>> {
     while beneath.height > 0 {
         beneath = one(random, &reading::children(&words, beneath))?.child;
     }
-    let axis = random.place(2);
-    let fast = words[entry.at + inner::ROWS[axis] + inner::FAST];
-    if fast == VELOCITY {
-        return None;
-    }
     let at = entry_at(beneath.node, random.place(reading::count(&words, beneath.node)));
-    words[at + [cell::VX, cell::VY][axis]] = random.between(fast + 1, VELOCITY);
+    let axis = random.place(2);
+    let [position, velocity] = [[cell::X, cell::VX], [cell::Y, cell::VY]][axis];
+    let row = reading::bounds(&words, entry.at).0[axis];
+    let stamp = words[entry.at + inner::STAMP];
+    (words[at + position], words[at + velocity]) =
+        replace(random, row, stamp, words[at + position], words[at + velocity])?;
     if levels > 0 {
         rework_but(&mut words, Some(entry.at));
     }
     Some(words)
+}
+
+/// From an entry's row and stamp and the position and velocity of a cell: the new ones.
+type Replace = fn(&mut Random, [i32; 4], i32, i32, i32) -> Option<(i32, i32)>;
+
+fn faster(random: &mut Random, row: [i32; 4], _: i32, position: i32, _: i32) -> Option<(i32, i32)> {
+    let fast = row[inner::FAST];
+    (fast < VELOCITY).then(|| (position, random.between(fast + 1, VELOCITY)))
+}
+
+/// One past the entry's high edge, at its stamp.
+fn one_farther(_: &mut Random, row: [i32; 4], stamp: i32, _: i32, velocity: i32) -> Option<(i32, i32)> {
+    let position = row[inner::HIGH] + (row[inner::FAST] - velocity) * stamp + 1;
+    (position <= KEPT).then_some((position, velocity))
 }
 
 /// What students write: edges worked out at a minute and kept as if they were at minute 0.

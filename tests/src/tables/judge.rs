@@ -127,7 +127,7 @@ impl Judge<'_> {
     fn table(&mut self) {
         let capacity = self.word(CAPACITY);
         let clock = self.word(CLOCK);
-        self.must(1 <= capacity && capacity <= 256, Clause::Capacity);
+        self.must((1..=256).contains(&capacity), Clause::Capacity);
         self.must((0..=MINUTE).contains(&clock), Clause::Clock);
         if !(0..=1_000).contains(&capacity) {
             return;
