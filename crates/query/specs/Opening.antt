@@ -6,8 +6,6 @@ use mathlib.Core.List.{List, [], _∷_, _++_, map, map-append, flatMap, append-a
 use Prim.Native.Nat.{ℕ, zero, suc, _+_, _-_, _^_, _≤_, _<_}
 use native.Mathlib.Numerals.{add-one, sub-one}
 use native.Mathlib.Omega.{arith}
-use lib.Dec.{eqb}
-use borrow.Author.Tests.{ne-eqb}
 use lib.IntN.{ℤ}
 use lib.ListN.{length, set, take, drop, length-append, length-set, drop-of-length-le}
 use lib.Seq.{take-suc-set}
@@ -57,14 +55,6 @@ pub record CanOpen (w : List ℤ) (k : Query) (h i from : ℕ) (keys : List ℕ)
   -- there is room for the keys, and the count of opened nodes stays small
   pub room : before .hits + length (foundFrom (entriesAt w) k h (drop from (entriesAt w i))) ≤ length keys
   pub few-opened : before .opened + length (openedFrom (entriesAt w) k h (drop from (entriesAt w i))) < 2 ^ 32
-
--- the code's flag for a leaf
-pub leaf-flag : (h : ℕ) → eqb h 0 ≡ isLeaf h
-leaf-flag zero = refl
-leaf-flag (suc h) = ne-eqb (suc h) 0 some
-  where
-    some : suc h ≡ 0 → ⊥
-    some e = omega arith
 
 -- the counts with one hit more, and with one node more
 abbrev pub oneHit : Found → Found

@@ -5,16 +5,16 @@ use Rattle.words.specs.Layout.{entryAt}
 use Rattle.whole.specs.Within.{word-back}
 use Rattle.node.specs.Entry.{boundsOf, untilOf}
 use Rattle.table.specs.Tree.{isLeaf}
-use Rattle.query.specs.Opening.{leaf-flag}
+use Rattle.table.specs.ScanParts.{leaf-test}
 use borrow.Author.Needs.{needs}
 use Rattle.query.proofs.opening.entry_meets.Statement.{statement}
 use Rattle.query.proofs.opening.entry_meets.Tie as tie
 
 bounds-are : (c : tie.After-bounds) → let a = c .before .args in c .bounds .result ≡ boundsOf (isLeaf (a .height)) (entryAt (a .node .now) (a .e))
-bounds-are c = rw leaf-flag at (c .bounds .ensures)
+bounds-are c = rw leaf-test at (c .bounds .ensures)
 
 until-is : (c : tie.After-until) → let a = c .before .before .args in toZ w32 (ofZ w32 (c .until .result)) ≡ untilOf (isLeaf (a .height)) (entryAt (a .node .now) (a .e))
-until-is c = word-back (c .until .result) (c .until .ok) ∙ (rw leaf-flag at (c .until .ensures))
+until-is c = word-back (c .until .result) (c .until .ok) ∙ (rw leaf-test at (c .until .ensures))
 
 bounds-requires : tie.Need-bounds-requires
 bounds-requires c κs = search needs
