@@ -9,8 +9,8 @@ use native.Mathlib.Omega.{arith}
 use lib.Dec.{leb, leb→le}
 use lib.IntN.{ℤ, pos, negsuc}
 use lib.Signed.{_≤ℤ_, leZ-yes}
-use lib.ListN.{length, getD, drop, length-append, List·getD-append, drop-of-length-le}
-use lib.Seq.{drop-cons, getD-at}
+use lib.ListN.{length, getD, take, drop, length-append, List·getD-append, drop-of-length-le}
+use lib.Seq.{drop-cons, getD-at, take-all, take-append-le}
 use Rattle.whole.specs.Lists.{_∈_, at-in}
 use Rattle.whole.specs.Tells.{Tells}
 use Rattle.words.specs.Layout.{entryAt, entryOffset, entryWords, fullNode}
@@ -33,6 +33,23 @@ module _ {A : Type 0} (f : ℕ → A) where
       by : (k < n → getD (firstOf f n) k d ≡ f k) → Dec (k < n) → getD (firstOf f n ++ f n ∷ []) k d ≡ f k
       by below (yes l) = List·getD-append (firstOf f n) (f n ∷ []) d k (omega (arith, length-firstOf n)) ∙ below l
       by below (no l) = let e : k ≡ n = omega arith in rw e (getD-at (firstOf f n) (f n) [] d n (length-firstOf n))
+
+  -- the first m of them
+  pub take-firstOf : (m n : ℕ) → m ≤ n → take m (firstOf f n) ≡ firstOf f m
+  unfolding firstOf
+  take-firstOf m zero h = let e : m ≡ 0 = omega arith in rw e
+  take-firstOf m (suc n) h = by (λ l. take-firstOf m n l) (decLt n m)
+    where
+      by : (m ≤ n → take m (firstOf f n) ≡ firstOf f m) → Dec (n < m) → take m (firstOf f n ++ f n ∷ []) ≡ firstOf f m
+      by below (yes l) =
+          let e : m ≡ suc n = omega arith in
+          rw e (take-all (suc n) (firstOf f (suc n)) (omega (arith, length-firstOf (suc n))))
+      by below (no l) = take-append-le m (firstOf f n) (f n ∷ []) (omega (arith, length-firstOf n)) ∙ below (omega arith)
+
+pub firstOf-same : {A : Type 0} (f g : ℕ → A) (n : ℕ) → ((k : ℕ) → k < n → f k ≡ g k) → firstOf f n ≡ firstOf g n
+unfolding firstOf
+firstOf-same f g zero same = refl
+firstOf-same f g (suc n) same = rw (firstOf-same f g n (λ k l. same k (omega arith)), same n (omega arith))
 
 -- ---- the count
 pub count-fits : (node : List ℤ) → countOf node ≤ fullNode

@@ -3,3 +3,9 @@ pub mod EntryLaws
 pub mod WorkedOut
 pub mod Pass
 pub mod Ninth
+pub mod Change
+pub mod ChangeLaws
+pub mod ChangeAt
+pub mod ChangeAtLaws
+pub mod Made
+pub mod MadeLaws

@@ -2,9 +2,8 @@
 use track::cell::Cell;
 use track::meeting::cell_bounds;
 use track::minute::Minute;
-use words::ENTRY_WORDS;
 use words::FULL_NODE;
-use words::OWN_WORDS;
+use words::entry_offset;
 use words::place;
 use words::place_at;
 use words::rows;
@@ -12,7 +11,7 @@ use words::word;
 ghost use mathlib.Core.Path.{_≡_};
 ghost use Prim.Native.Nat.{_<_, _^_};
 ghost use Rattle.whole.specs.Tells.{Tells};
-ghost use Rattle.words.specs.Layout.{entryAt, entryOffset, entryWords, fullNode};
+ghost use Rattle.words.specs.Layout.{entryAt, entryWords, fullNode};
 ghost use Rattle.words.specs.Words.{wordAt};
 ghost use Rattle.node.specs.Entry.{countWord, IsCount, countOf, cellOf, childWord, childOf, stampOf, boundsOf, untilOf};
 
@@ -33,14 +32,6 @@ pub fn is_counted(node: &[i32]) -> bool
         return false;
     }
     place(n) <= FULL_NODE
-}
-
-// The place of entry k's first word in its node.
-fn entry_offset(k: usize) -> usize
-    requires { ⌜ k < fullNode ⌝ }
-    ensures { λ r. ⌜ r ≡ entryOffset k ⌝ }
-{
-    OWN_WORDS + ENTRY_WORDS * k
 }
 
 // The word at a place of entry k.

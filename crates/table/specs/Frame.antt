@@ -11,7 +11,7 @@ use Rattle.node.specs.Entry.{Entry, childOf}
 use Rattle.table.specs.Tree.{Nodes, leavesOf, nodesOf, NotBefore, EntrySound, TreeSound}
 use Rattle.table.specs.Reach.{node-self, node-up}
 
-flat-same : {A B : Type 0} (f g : A → List B) (l : List A) → ((x : A) → x ∈ l → f x ≡ g x) → flatMap f l ≡ flatMap g l
+pub flat-same : {A B : Type 0} (f g : A → List B) (l : List A) → ((x : A) → x ∈ l → f x ≡ g x) → flatMap f l ≡ flatMap g l
 unfolding flatMap
 flat-same f g [] each = refl
 flat-same {A} {B} f g (x ∷ l) each =

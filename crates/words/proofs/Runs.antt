@@ -1,5 +1,5 @@
 -- A loop that writes a run of elements in ascending order: what holds after each turn. `run j` is the first j elements of the run.
-use mathlib.Core.Path.{_≡_, refl, sym, ap, _∙_}
+use mathlib.Core.Path.{_≡_, refl, sym, ap, _∙_, subst}
 use mathlib.Core.List.{List, [], _∷_, _++_}
 use Prim.Native.Nat.{ℕ, _+_, _<_, _≤_}
 use native.Mathlib.Decide.{decLt}
@@ -24,6 +24,19 @@ written-next {run} {w} {t} {to} {n} {j} so-far v fits h many more = record {
   is = rw (so-far .is, more) (put-next w to j (run j) v (omega arith) many);
   long = length-set t (to + j) v ∙ so-far .long;
 }
+
+-- the same in a list that is written from its start on
+pub filled-next : {A : Type 0} {run : ℕ → List A} {w t : List A} {n j : ℕ} → Written run w t 0 n j → (v : A) → n ≤ length w → j < n
+    → length (run j) ≡ j → run (j + 1) ≡ run j ++ (v ∷ []) → Written run w (set t j v) 0 n (j + 1)
+filled-next {run} {w} {t} {n} {j} so-far v fits h many more =
+    let at : 0 + j ≡ j = omega arith in
+    subst (λ (i : ℕ). Written run w (set t i v) 0 n (j + 1)) at (written-next so-far v (omega arith) h many more)
+
+-- one more of the first elements of a list
+pub first-next : {A : Type 0} (l : List A) (j : ℕ) (d : A) → j < length l → part l 0 (j + 1) ≡ part l 0 j ++ (getD l j d ∷ [])
+first-next l j d h =
+    let at : 0 + j ≡ j = omega arith in
+    part-next l 0 j d (omega arith) ∙ ap (λ (i : ℕ). part l 0 j ++ (getD l i d ∷ [])) at
 
 pub written-all : {A : Type 0} {run : ℕ → List A} {w t : List A} {to n j : ℕ} → Written run w t to n j → n ≤ j → t ≡ put w to n (run n)
 written-all {n} {j} so-far h = let e : j ≡ n = omega (arith, so-far .upto) in rw e at (so-far .is)

@@ -113,6 +113,15 @@ module _ {A : Type 0} where
   pub length-lent-node : (w : List A) (i a : ℕ) → a ≡ nodeStart i → InTable w i → length (take (a + nodeWords - a) (drop a w)) ≡ nodeWords
   length-lent-node w i a start fits = rw (lent-part w a nodeWords) (length-part w a nodeWords (omega arith))
 
+  pub lent-is-node : (w : List A) (i a : ℕ) → a ≡ nodeStart i → take (a + nodeWords - a) (drop a w) ≡ nodeAt w i
+  unfolding nodeAt
+  lent-is-node w i a start = lent-part w a nodeWords ∙ rw start
+
+  -- what holds of the node holds of the words lent
+  pub lent-with : (holds : List A → Type 0) (w : List A) (i a : ℕ) → a ≡ nodeStart i → InTable w i → holds (nodeAt w i)
+      → (length (take (a + nodeWords - a) (drop a w)) ≡ nodeWords) × holds (take (a + nodeWords - a) (drop a w))
+  lent-with holds w i a start fits h = (length-lent-node w i a start fits, rw (lent-is-node w i a start) h)
+
   -- what `change` makes of the lent words stands in the node's place when they are back
   pub lent-node : (change : List A → List A) (w : List A) (i a : ℕ) (n : List A) → a ≡ nodeStart i
       → n ≡ change (take (a + nodeWords - a) (drop a w)) → putMid a (a + nodeWords - a) w n ≡ setNode w i (change (nodeAt w i))

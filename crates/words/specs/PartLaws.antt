@@ -1,15 +1,15 @@
 -- Laws of `part` and `put`, for lists of any type. Those that simplify are in the set `part-rules`, for `simp`, which looks for their side
 -- conditions among the variables in scope.
 use mathlib.Core.Path.{_≡_, ap, sym, _∙_}
-use mathlib.Core.List.{List, [], _∷_, _++_, append-assoc}
+use mathlib.Core.List.{List, [], _∷_, _++_, append-assoc, append-nil}
 use Prim.Native.Nat.{ℕ, zero, suc, _+_, _*_, _-_, _<_, _≤_}
 use native.Mathlib.Decide.{decLt}
 use native.Mathlib.Nat.{add-sub-cancel-left, mul-le-mul-left, mul-suc}
 use native.Mathlib.Numerals.{add-one, unary-clauses}
 use native.Mathlib.Omega.{arith}
 use borrow.Rule.Slice.PartMut.{putMid, set-mid-at}
-use lib.ListN.{length, getD, take, drop, set, length-take, length-drop, length-append, List·getD-append, take-append-drop}
-use lib.Seq.{getD-take, getD-drop, getD-append-add, take-at, drop-at, take-take, take-add, take-nil, drop-drop, drop-cons, take-append-le, drop-append-le, drop-append-add}
+use lib.ListN.{length, getD, take, drop, set, length-take, length-drop, length-append, List·getD-append, take-append-drop, drop-of-length-le}
+use lib.Seq.{getD-take, getD-drop, getD-append-add, take-at, drop-at, take-take, take-add, take-nil, take-all, drop-drop, drop-cons, take-append-le, drop-append-le, drop-append-add}
 use lib.Seq.{take-set-le, take-set-lt, drop-set-lt, drop-set-add, set-split, sets, sets-eq}
 use Rattle.words.specs.Parts.{part, put}
 
@@ -132,6 +132,9 @@ module _ {A : Type 0} where
       let h′ : m ≤ k - b = omega arith in
       rw (drop-take b k (drop a w), drop-drop b a w) (take-take m (k - b) (drop (a + b) w) h′)
 
+  pub part-of-put : (w : List A) (a k : ℕ) (p : List A) (b m : ℕ) → a + k ≤ length w → length p ≡ k → b + m ≤ k → part (put w a k p) (a + b) m ≡ part p b m
+  part-of-put w a k p b m fits long h = sym (part-part (put w a k p) a k b m h) ∙ rw (part-put w a k p fits long)
+
   pub put-in-part : (w : List A) (a k b m : ℕ) (p : List A) → a + k ≤ length w → b + m ≤ k → put w a k (put (part w a k) b m p) ≡ put w (a + b) m p
   unfolding put part
   put-in-part w a k b m p fits h = rw (fore, aft) (simp append-assoc)
@@ -185,6 +188,15 @@ module _ {A : Type 0} where
   pub put-none : (w : List A) (a : ℕ) → put w a 0 [] ≡ w
   unfolding put
   put-none w a = take-append-drop a w
+
+  -- the part that is all, and what is put in its place
+  pub part-whole : (w : List A) (k : ℕ) → length w ≡ k → part w 0 k ≡ w
+  unfolding part
+  part-whole w k long = take-all k w (omega arith)
+
+  pub put-whole : (w : List A) (p : List A) (k : ℕ) → length w ≡ k → put w 0 k p ≡ p
+  unfolding put
+  put-whole w p k long = rw (drop-of-length-le w {i = k} (omega arith)) (append-nil p)
 
   pub put-beside : (w : List A) (a k : ℕ) (p : List A) (m : ℕ) (q : List A) → a + k ≤ length w → length p ≡ k → put (put w a k p) (a + k) m q ≡ put w a (k + m) (p ++ q)
   unfolding put

@@ -13,7 +13,7 @@ use native.Mathlib.Numerals.{add-one, add-two, add-three}
 use lib.ListN.{length, getD, List·getD-eq-default, length-append}
 use lib.Seq.{drop-cons}
 use Rattle.words.specs.Parts.{part, put}
-use Rattle.words.specs.PartLaws.{length-put, getD-part, getD-put-below, getD-put-above, part-put, part-add, put-beside}
+use Rattle.words.specs.PartLaws.{length-put, getD-part, getD-put-below, getD-put-above, part-put, part-add, part-whole, put-beside}
 use Rattle.whole.specs.Within.{Within}
 use Rattle.words.specs.Layout.{nodeWords, nodeStart, nodeAt}
 use Rattle.words.specs.LayoutLaws.{word-nodeAt}
@@ -78,6 +78,10 @@ rowAt-part w at fits =
     let h₃ : suc (suc (suc at)) < length w = omega arith in
     let z = pos 0 in
     rw (add-one, add-two, add-three, drop-cons w at z, drop-cons w (suc at) z, drop-cons w (suc (suc at)) z, drop-cons w (suc (suc (suc at))) z)
+
+-- four words are a row
+pub rowAt-whole : (r : List ℤ) → length r ≡ 4 → rowAt r 0 ≡ r
+rowAt-whole r four = rowAt-part r 0 (omega arith) ∙ part-whole r 4 four
 
 pub rowsAt-part : (w : List ℤ) (at : ℕ) → at + 8 ≤ length w → inLine (rowsAt w at) ≡ part w at 8
 rowsAt-part w at fits = rw (rowAt-part w at (omega arith), rowAt-part w (at + 4) (omega arith)) (sym (part-add w at 4 4))

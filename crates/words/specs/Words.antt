@@ -3,7 +3,7 @@ use mathlib.Core.Path.{_≡_}
 use mathlib.Core.List.{List, [], _∷_, _++_}
 use Prim.Native.Nat.{ℕ, _+_}
 use lib.IntN.{ℤ, pos, negsuc}
-use lib.ListN.{length, getD}
+use lib.ListN.{length, getD, set}
 
 -- the word at `at`
 abbrev pub wordAt : List ℤ → ℕ → ℤ
@@ -31,3 +31,7 @@ pub record TwoRows (b : List (List ℤ)) : Type 0 where
   pub two : length b ≡ 2
   pub first : length (getD b 0 []) ≡ 4
   pub second : length (getD b 1 []) ≡ 4
+
+-- a node with n for the count of its entries, which is its first word
+unfoldable pub withCount : List ℤ → ℕ → List ℤ
+withCount node n = set node 0 (pos n)

@@ -2,10 +2,10 @@
 ghost use mathlib.Core.Path.{_≡_};
 ghost use Prim.Native.Nat.{_+_, _^_, _<_, _≤_};
 ghost use lib.IntN.{pos};
-ghost use lib.ListN.{length, set, replicate};
+ghost use lib.ListN.{length, replicate};
 ghost use Rattle.words.specs.Parts.{part, put, CanCopy};
-ghost use Rattle.words.specs.Layout.{nodeStart, entryStart, nodeLimit, fullNode, InTable, nodeAt, setNode};
-ghost use Rattle.words.specs.Words.{wordAt, natOf, rowAt, rowsAt, inLine, TwoRows};
+ghost use Rattle.words.specs.Layout.{nodeStart, entryOffset, entryStart, nodeLimit, nodeWords, entryWords, fullNode, entryAt, setEntry};
+ghost use Rattle.words.specs.Words.{wordAt, natOf, rowAt, rowsAt, inLine, TwoRows, withCount};
 
 // The sizes of specs/Layout.antt, for the code.
 pub const HEADER: usize = 16;
@@ -18,6 +18,9 @@ pub const ENTRY_WORDS: usize = 11;
 
 pub const FULL_NODE: usize = 8;
 
+// The words of an entry by value, ENTRY_WORDS many: an array's type takes no constant.
+pub type Entry = [i32; 11];
+
 // The place of node i's first word.
 pub fn node_start(i: usize) -> usize
     requires { ⌜ i < nodeLimit ⌝ }
@@ -26,12 +29,20 @@ pub fn node_start(i: usize) -> usize
     HEADER + NODE_WORDS * i
 }
 
+// The place of entry k's first word in its node.
+pub fn entry_offset(k: usize) -> usize
+    requires { ⌜ k < fullNode ⌝ }
+    ensures { λ r. ⌜ r ≡ entryOffset k ⌝ }
+{
+    OWN_WORDS + ENTRY_WORDS * k
+}
+
 // The place of the first word of node i's entry k.
 pub fn entry_start(i: usize, k: usize) -> usize
     requires { ⌜ (i < nodeLimit) × (k < fullNode) ⌝ }
     ensures { λ r. ⌜ r ≡ entryStart i k ⌝ }
 {
-    node_start(i) + (OWN_WORDS + ENTRY_WORDS * k)
+    node_start(i) + entry_offset(k)
 }
 
 // The word at a place.
@@ -134,20 +145,38 @@ pub fn fill(t: &mut [i32], from: usize, n: usize, v: i32)
     }
 }
 
-// Writes the count of a node whose words are lent by themselves.
-fn put_count(node: &mut [i32], n: i32)
-    requires { ⌜ 0 < length (now node) ⌝ }
-    ensures { λ _. ⌜ now (node .exit) ≡ set (now (node .entry)) 0 n ⌝ }
+// The words of a node's entry k.
+pub fn entry(node: &[i32], k: usize) -> Entry
+    requires { ⌜ (length (now node) ≡ nodeWords) × (k < fullNode) ⌝ }
+    ensures { λ r. ⌜ r ≡ entryAt (now (node .entry)) k ⌝ }
 {
-    node[0] = n;
+    let a = entry_offset(k);
+    let mut e = [0; 11];
+    let mut j = 0;
+    while j < ENTRY_WORDS {
+        e[j] = node[a + j];
+        j += 1;
+    }
+    e
 }
 
-// Writes the count of node i. The node's words are lent on, so all others are seen to stay as they are.
-pub fn with_count(t: &mut [i32], i: usize, n: i32)
-    requires { ⌜ InTable (now t) i ⌝ }
-    ensures { λ _. ⌜ now (t .exit) ≡ setNode (now (t .entry)) i (set (nodeAt (now (t .entry)) i) 0 n) ⌝ }
+// Writes a node's entry k.
+pub fn put_entry(node: &mut [i32], k: usize, e: Entry)
+    requires { ⌜ (length (now node) ≡ nodeWords) × (k < fullNode) ⌝ }
+    ensures { λ _. ⌜ (now (node .exit) ≡ setEntry (now (node .entry)) k e) × (length e ≡ entryWords) ⌝ }
 {
-    let a = node_start(i);
-    let e = a + NODE_WORDS;
-    put_count(&mut t[a..e], n);
+    let a = entry_offset(k);
+    let mut j = 0;
+    while j < ENTRY_WORDS {
+        node[a + j] = e[j];
+        j += 1;
+    }
+}
+
+// Writes the count of a node's entries.
+pub fn put_count(node: &mut [i32], n: usize)
+    requires { ⌜ (0 < length (now node)) × (n < 2 ^ 31) ⌝ }
+    ensures { λ _. ⌜ now (node .exit) ≡ withCount (now (node .entry)) n ⌝ }
+{
+    node[0] = number(n);
 }

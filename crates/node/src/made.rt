@@ -1,0 +1,75 @@
+// The entries that are put in: a leaf's entry, made from its cell, and an inner entry, made from what its child comes to at a minute.
+use crate::worked::latest;
+use crate::worked::worked_row;
+use track::cell::Cell;
+use words::Entry;
+use words::number;
+ghost use mathlib.Core.Path.{_≡_};
+ghost use Prim.Native.Nat.{_<_, _^_};
+ghost use Rattle.track.specs.Numbers.{IsMinute, IsEdge};
+ghost use Rattle.track.specs.Small.{RowInRange};
+ghost use Rattle.node.specs.Entry.{entriesOf};
+ghost use Rattle.node.specs.Made.{workedOut, innerEntry, leafEntry, InRangeAt};
+
+// What a node comes to at a minute: a row for x, a row for y, and the greatest expiry.
+pub struct Worked {
+    pub x: [i32; 4],
+    pub y: [i32; 4],
+    pub until: i32,
+}
+
+fn narrow(z: i64) -> i32
+    requires { ⌜ IsEdge z ⌝ }
+    ensures { λ r. ⌜ r ≡ z ⌝ }
+{
+    z as i32
+}
+
+fn narrow_row(r: [i64; 4]) -> [i32; 4]
+    requires { ⌜ RowInRange r ⌝ }
+    ensures { λ s. ⌜ s ≡ r ⌝ }
+{
+    [narrow(r[0]), narrow(r[1]), narrow(r[2]), narrow(r[3])]
+}
+
+pub fn work_out(child: &[i32], leaf: bool, minute: i32) -> Worked
+    requires { ⌜ (IsMinute minute) × (InRangeAt leaf minute (entriesOf (now child))) ⌝ }
+    ensures { λ r. ⌜ r ≡ workedOut leaf minute (entriesOf (now (child .entry))) ⌝ }
+{
+    let x = narrow_row(worked_row(child, leaf, 0, minute));
+    let y = narrow_row(worked_row(child, leaf, 1, minute));
+    Worked {
+        x,
+        y,
+        until: latest(child, leaf),
+    }
+}
+
+// The inner entry above a child, worked out at the stamp.
+pub fn inner_entry(child: usize, made: Worked, stamp: i32) -> Entry
+    requires { ⌜ child < 2 ^ 31 ⌝ }
+    ensures { λ r. ⌜ r ≡ innerEntry child made stamp ⌝ }
+{
+    let x = made.x;
+    let y = made.y;
+    [
+        number(child),
+        x[0],
+        x[1],
+        x[2],
+        x[3],
+        y[0],
+        y[1],
+        y[2],
+        y[3],
+        made.until,
+        stamp,
+    ]
+}
+
+// The entry of a cell. The words after the cell's six are read by nobody.
+pub fn leaf_entry(c: Cell) -> Entry
+    ensures { λ r. ⌜ r ≡ leafEntry c ⌝ }
+{
+    [c.id, c.x, c.vx, c.y, c.vy, c.expiry.at, 0, 0, 0, 0, 0]
+}

@@ -1,0 +1,28 @@
+-- A leaf's entries rewritten.
+use mathlib.Core.Path.{_≡_}
+use mathlib.Core.List.{List}
+use Prim.Native.Nat.{ℕ, zero, _+_}
+use native.Mathlib.Omega.{arith}
+use lib.IntN.{ℤ}
+use Rattle.whole.specs.Lists.{_∈_}
+use Rattle.track.specs.Small.{CellInRange}
+use Rattle.node.specs.Entry.{Entry, cellOf}
+use Rattle.table.specs.Tree.{Nodes, leavesOf, TreeSound}
+use Rattle.tree.specs.Weights.{sumOver, is-other, visits-node, visits-leaf}
+use Rattle.tree.specs.Moved.{Moved, noNode}
+
+module _ (N N′ : Nodes) (i : ℕ) where
+  -- no node comes in or goes out
+  pub leaf-moved : {put out : (Entry → ℕ) → ℕ} → ((φ : Entry → ℕ) → sumOver φ (N′ i) + out φ ≡ sumOver φ (N i) + put φ)
+      → ((j : ℕ) → (j ≡ i → ⊥) → N′ j ≡ N j) → Moved N N′ zero i put out noNode noNode
+  unfolding leavesOf
+  leaf-moved weights other = record {
+    other = λ j z g. other j (is-other (omega (arith, visits-node N j zero i)));
+    weight = weights;
+    met = λ j. omega (arith, visits-node N j zero i, visits-node N′ j zero i, visits-leaf N j (N i), visits-leaf N′ j (N′ i));
+  }
+
+  -- a leaf is sound where its entries are cells in range
+  pub leaf-sound : (cells : ℕ) (clock : ℤ) → ((e : Entry) → e ∈ N i → CellInRange (cellOf e)) → TreeSound N cells clock zero i
+  unfolding TreeSound
+  leaf-sound cells clock each = each

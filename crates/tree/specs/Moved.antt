@@ -1,0 +1,114 @@
+-- What a change of a table does to the tree below a node, and how changes are put together.
+use mathlib.Core.Path.{_≡_, refl, ap, _∙_}
+use mathlib.Core.List.{List, _∷_}
+use Prim.Native.Nat.{ℕ, suc, _+_, _≤_, _<_}
+use native.Mathlib.Decide.{decLt}
+use native.Mathlib.Omega.{arith}
+use Rattle.whole.specs.Times.{times}
+use Rattle.node.specs.Entry.{Entry, childOf}
+use Rattle.table.specs.Tree.{Nodes}
+use Rattle.tree.specs.Weights.{sumOver, SameWeights, weight, visits, visitsIn, Once, isNode, is-self, AgreeIn, weight-has, visits-has, weight-child, visits-child, leaves-in-frame, nodes-in-frame}
+
+-- from the tree below node i, with h levels beneath it, to the tree below node i′, with h′ levels: the weight `put` comes in and `out` goes
+-- out, the nodes `got` come in and `gone` go out, and no node is touched but those met before and those that come in
+pub record MovedTo (N N′ : Nodes) (h i h′ i′ : ℕ) (put out : (Entry → ℕ) → ℕ) (got gone : ℕ → ℕ) : Type 0 where
+  pub other : (j : ℕ) → visits j N h i ≡ 0 → got j ≡ 0 → N′ j ≡ N j
+  pub weight : (φ : Entry → ℕ) → weight φ N′ h′ i′ + out φ ≡ weight φ N h i + put φ
+  pub met : (j : ℕ) → visits j N′ h′ i′ + gone j ≡ visits j N h i + got j
+
+-- the same below one node, as all changes are but those of the root
+abbrev pub Moved : Nodes → Nodes → ℕ → ℕ → ((Entry → ℕ) → ℕ) → ((Entry → ℕ) → ℕ) → (ℕ → ℕ) → (ℕ → ℕ) → Type 0
+Moved N N′ h i put out got gone = MovedTo N N′ h i h i put out got gone
+
+-- nothing comes in or goes out
+abbrev pub noWeight : (Entry → ℕ) → ℕ
+noWeight φ = 0
+
+abbrev pub noNode : ℕ → ℕ
+noNode j = 0
+
+-- no node that comes in is met already
+abbrev pub Fresh : Nodes → ℕ → ℕ → (ℕ → ℕ) → Type 0
+Fresh N h i got = (j : ℕ) → 0 < got j → visits j N h i ≡ 0
+
+pub fresh-none : (N : Nodes) (h i : ℕ) → Fresh N h i noNode
+fresh-none N h i j some = omega arith
+
+module _ {N N′ : Nodes} {h i h′ i′ : ℕ} {put out : (Entry → ℕ) → ℕ} {got gone : ℕ → ℕ} where
+  -- the same change, written otherwise: what comes in and what goes out may both be lessened
+  pub moved-as : {put′ out′ : (Entry → ℕ) → ℕ} {got′ gone′ : ℕ → ℕ} → MovedTo N N′ h i h′ i′ put out got gone
+      → ((φ : Entry → ℕ) → put φ + out′ φ ≡ put′ φ + out φ) → ((j : ℕ) → got j + gone′ j ≡ got′ j + gone j)
+      → ((j : ℕ) → visits j N h i ≡ 0 → got′ j ≡ 0 → got j ≡ 0) → MovedTo N N′ h i h′ i′ put′ out′ got′ gone′
+  moved-as m weights nodes in-got = record {
+    other = λ j z g. m .other j z (in-got j z g);
+    weight = λ φ. omega (arith, m .weight φ, weights φ);
+    met = λ j. omega (arith, m .met j, nodes j);
+  }
+
+  -- one change after another
+  pub moved-trans : {N″ : Nodes} {h″ i″ : ℕ} {put′ out′ : (Entry → ℕ) → ℕ} {got′ gone′ : ℕ → ℕ} → MovedTo N N′ h i h′ i′ put out got gone → MovedTo N′ N″ h′ i′ h″ i″ put′ out′ got′ gone′
+      → MovedTo N N″ h i h″ i″ (λ φ. put φ + put′ φ) (λ φ. out φ + out′ φ) (λ j. got j + got′ j) (λ j. gone j + gone′ j)
+  moved-trans a b = record {
+    other = λ j z g. b .other j (omega (arith, a .met j)) (omega arith) ∙ a .other j z (omega arith);
+    weight = λ φ. omega (arith, a .weight φ, b .weight φ);
+    met = λ j. omega (arith, a .met j, b .met j);
+  }
+
+  -- no node is met twice afterwards, where none was and the nodes that come in are fresh
+  pub moved-once : MovedTo N N′ h i h′ i′ put out got gone → Once N h i → Fresh N h i got → ((j : ℕ) → got j ≤ 1) → Once N′ h′ i′
+  moved-once m once fresh single j = by (decLt 0 (got j))
+    where
+      by : Dec (0 < got j) → visits j N′ h′ i′ ≤ 1
+      by (yes some) = omega (arith, m .met j, fresh j some, single j)
+      by (no none) = omega (arith, m .met j, once j)
+
+pub moved-none : (N : Nodes) (h i : ℕ) → Moved N N h i noWeight noWeight noNode noNode
+moved-none N h i = record { other = λ j z g. refl; weight = λ φ. refl; met = λ j. refl }
+
+-- ---- from a child to its parent: node i has the entry e and the entries rest, and something changed below e's child
+module _ (i : ℕ) {N N′ : Nodes} {h : ℕ} {e : Entry} {rest : List Entry} {put out : (Entry → ℕ) → ℕ} {got gone : ℕ → ℕ}
+    (has : SameWeights (N i) (e ∷ rest)) (once : Once N (suc h) i) (fresh : Fresh N (suc h) i got) (m : Moved N N′ h (childOf e) put out got gone) where
+  parent : (j : ℕ) → visits j N (suc h) i ≡ isNode j i + (visits j N h (childOf e) + visitsIn j N (suc h) rest)
+  parent j = omega (arith, visits-has N j (suc h) i has, visits-child N j h e rest)
+
+  beyond : (j : ℕ) → 0 < visits j N (suc h) i → visits j N h (childOf e) ≡ 0 → N′ j ≡ N j
+  beyond j here z = m .other j z (by (decLt 0 (got j)))
+    where
+      by : Dec (0 < got j) → got j ≡ 0
+      by (yes some) = omega (arith, fresh j some)
+      by (no none) = omega arith
+
+  -- the parent has its entries still
+  pub down-node : N′ i ≡ N i
+  down-node = beyond i (omega (arith, parent i, is-self i)) (omega (arith, parent i, once i, is-self i))
+
+  -- the subtrees of its other entries are as before
+  pub down-agree : AgreeIn N N′ (suc h) rest
+  down-agree j here = beyond j (omega (arith, parent j)) (omega (arith, parent j, once j))
+
+  down-has : SameWeights (N′ i) (e ∷ rest)
+  down-has = rw down-node has
+
+  pub moved-down : Moved N N′ (suc h) i put out got gone
+  moved-down = record {
+    other = λ j z g. m .other j (omega (arith, parent j)) g;
+    weight = λ φ.
+        omega (
+          arith,
+          m .weight φ,
+          ap (sumOver φ) (leaves-in-frame N N′ (suc h) rest down-agree),
+          weight-has N φ (suc h) i has,
+          weight-child N φ h e rest,
+          weight-has N′ φ (suc h) i down-has,
+          weight-child N′ φ h e rest,
+        );
+    met = λ j.
+        omega (
+          arith,
+          m .met j,
+          ap (times j) (nodes-in-frame N N′ (suc h) rest down-agree),
+          parent j,
+          visits-has N′ j (suc h) i down-has,
+          visits-child N′ j h e rest,
+        );
+  }

@@ -1,0 +1,1 @@
+// Putting in and taking out: how the tree of a table is changed.
