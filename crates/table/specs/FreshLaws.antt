@@ -1,27 +1,27 @@
 -- What makes the words of a fresh table: each node free, then the header.
-use mathlib.Core.Path.{_≡_, refl, ap, _∙_, subst}
-use mathlib.Core.Logic.{inl, inr}
-use mathlib.Core.List.{List, [], _∷_, map, List·Memᴰ·not-nil, List·Memᴰ·head}
-use Prim.Native.Nat.{ℕ, zero, suc, _+_, _≤_, _<_}
-use native.Mathlib.Nat.{not-suc-le-zero, add-zero}
+use mathlib.Core.Path.{_≡_, refl, ap, _∙_}
+use mathlib.Core.Logic.{inl}
+use mathlib.Core.List.{List, [], _∷_, map, List·Memᴰ·not-nil}
+use Prim.Native.Nat.{ℕ, _+_, _≤_, _<_}
+use native.Mathlib.Nat.{not-suc-le-zero}
 use native.Mathlib.Omega.{arith}
 use borrow.Author.Count.{below-more}
 use lib.Dec.{lt→ltb}
 use lib.IntN.{ℤ, pos}
-use lib.ListN.{length, getD, set, drop, length-set}
-use lib.Seq.{drop-set-lt, getD-set-same}
-use lib.Signed.{_≤ℤ_, leZ-yes}
-use Rattle.whole.specs.Lists.{_∈_, NoRepeat, no-repeat-none, no-repeat-cons}
+use lib.ListN.{length, getD, drop}
+use lib.Signed.{leZ-yes}
+use Rattle.whole.specs.Lists.{no-repeat-none, no-repeat-cons}
 use Rattle.words.specs.Layout.{nodeWords, nodeStart, nodeAt, setNode, InTable}
-use Rattle.words.specs.LayoutLaws.{length-nodeAt, length-setNode, node-same, node-other, set-in-node}
+use Rattle.words.specs.LayoutLaws.{length-nodeAt, length-setNode, node-same, node-other}
 use Rattle.words.specs.Parts.{put}
 use Rattle.words.specs.PartLaws.{length-put, part-put-above, drop-put-above}
-use Rattle.words.specs.Words.{wordAt, natOf, rowAt}
+use Rattle.words.specs.Words.{natOf, rowAt, withCount}
 use Rattle.words.specs.WordLaws.{natOf-pos, rowAt-put}
-use Rattle.node.specs.Entry.{Entry, countWord, countOf, entriesOf, firstOf, cellOf, IsCount}
-use Rattle.table.specs.Header.{capacityWord, capacity, clock, rootWord, root, heightWord, height, IsCapacity, nodesFor, wordsFor, IsNode, entriesAt}
+use Rattle.node.specs.Entry.{countWord, countOf, entriesOf, firstOf, cellOf}
+use Rattle.node.specs.ChangeLaws.{length-withCount, countWord-withCount}
+use Rattle.table.specs.Header.{capacityWord, capacity, clock, rootWord, root, heightWord, height, IsCapacity, nodesFor, wordsFor, entriesAt}
 use Rattle.table.specs.Tree.{leavesOf, nodesOf, TreeSound}
-use Rattle.table.specs.Sound.{held, reached, Sound}
+use Rattle.table.specs.Sound.{held, Sound}
 use Rattle.table.specs.Fresh.{IsFresh}
 
 -- ---- free nodes
@@ -39,20 +39,21 @@ module _ {nodes : ℕ} {w : List ℤ} {i : ℕ} {v : List ℤ} (f : Freed nodes 
   inside = omega (arith, f .as-long)
 
   abbrev node : List ℤ
-  node = set (nodeAt v i) 0 (pos 0)
+  node = withCount (nodeAt v i) 0
 
   long : length node ≡ nodeWords
-  long = length-set (nodeAt v i) 0 (pos 0) ∙ length-nodeAt v i inside
+  long = length-withCount (nodeAt v i) 0 ∙ length-nodeAt v i inside
 
-  pub freed-more : Freed nodes w (i + 1) (setNode v i (set (nodeAt v i) 0 (pos 0)))
+  pub freed-more : Freed nodes w (i + 1) (setNode v i (withCount (nodeAt v i) 0))
+  unfolding setNode
   freed-more = record {
     free = below-more (λ (j : ℕ). countWord (nodeAt (setNode v i node) j) ≡ pos 0) i before here;
     as-long = length-setNode v i node inside long ∙ f .as-long;
-    rest-kept = rw (← set-in-node v i 0 (pos 0) inside (omega arith)) (drop-set-lt (nodeStart nodes) v (nodeStart i + 0) (pos 0) (omega arith) ∙ f .rest-kept);
+    rest-kept = drop-put-above v (nodeStart i) nodeWords node (nodeStart nodes) inside long (omega arith) ∙ f .rest-kept;
   }
     where
       here : countWord (nodeAt (setNode v i node) i) ≡ pos 0
-      here = rw (node-same v i node inside long) (getD-set-same (nodeAt v i) 0 (pos 0) (pos 0) (omega (arith, length-nodeAt v i inside)))
+      here = rw (node-same v i node inside long) (countWord-withCount (nodeAt v i) 0 (length-nodeAt v i inside))
 
       before : (j : ℕ) → j < i → countWord (nodeAt (setNode v i node) j) ≡ pos 0
       before j lt = rw (node-other v i node j inside long (λ e. absurd (other j lt e))) (f .free j lt)

@@ -1,10 +1,10 @@
 // Making a fresh table in the lent words.
 use crate::header::is_capacity;
 use crate::header::words_for;
+use node::change_at::keep_at;
 use track::refusal::Refusal;
 use words::place;
 use words::put_row;
-use words::with_count;
 ghost use Prim.Native.Nat.{_≤_};
 ghost use lib.ListN.{length};
 ghost use Rattle.words.specs.Layout.{nodeStart};
@@ -25,7 +25,7 @@ fn free_all(t: &mut [i32], nodes: usize)
 {
     let mut i = 0;
     while i < nodes {
-        with_count(&mut *t, i, 0);
+        keep_at(&mut *t, i, 0);
         i += 1;
     }
 }

@@ -14,8 +14,8 @@ abbrev μ-loop : tie.MeasureT-loop
 loop-holds : tie.Need-loop-holds Inv-loop μ-loop
 loop-holds c = (search needs, freed-none _ _)
 
-with-count-requires : tie.Need-with-count-requires Inv-loop μ-loop
-with-count-requires c κs = search needs
+keep-at-requires : tie.Need-keep-at-requires Inv-loop μ-loop
+keep-at-requires c κs = search needs
 
 add-i : tie.Need-add-i Inv-loop μ-loop
 add-i c = search needs
@@ -26,7 +26,7 @@ loop-less c = search needs
 loop-again : tie.Need-loop-again Inv-loop μ-loop
 loop-again c =
     let at = c .before .before .before .before in
-    (search needs, rw (c .before .with-count .ensures) (freed-more (at .loop .inv .1) (search needs) (at .before .pre)))
+    (search needs, rw (c .before .keep-at .ensures) (freed-more (at .loop .inv .1) (search needs) (at .before .pre)))
 
 same-length : tie.Need-same-length Inv-loop μ-loop
 same-length c = search needs
@@ -43,7 +43,7 @@ free-all-spec =
     Inv-loop
     μ-loop
     loop-holds
-    with-count-requires
+    keep-at-requires
     add-i
     loop-less
     loop-again
