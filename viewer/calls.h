@@ -1,18 +1,116 @@
 /*
- * Bradawlet: does the straight track of a storm cell meet a moving rectangle?
+ * Bradawlet: an index of moving storm cells, kept in a table of words that the
+ * caller lends.
  *
  * Link with libcalls.a. It needs no other library, keeps no state, allocates
- * nothing and takes any numbers at all: what it cannot answer it refuses by
- * number.
+ * nothing and takes any numbers and any words at all: what it cannot answer it
+ * refuses by number.
+ *
+ * Table and list must be memory of as many words as is said, apart from each
+ * other and from the numbers that are given back.
  */
 #ifndef BRADAWLET_CALLS_H
 #define BRADAWLET_CALLS_H
 
 #include "bradawlet.h"
 
+#include <stddef.h>
+
 #ifdef __cplusplus
 extern "C" {
 #endif
+
+/* The numbers that calls on tables give besides 4, 5 and 7 of enum
+   bradawlet_answer, which mean the same here with the table's clock in place of
+   the report's minute. */
+enum bradawlet_number {
+    /* Done. */
+    BRADAWLET_DONE = 0,
+    /* Refused: the words are not a sound table. */
+    BRADAWLET_UNSOUND = 1,
+    /* Refused: there is no table for so many cells. */
+    BRADAWLET_NO_SUCH_CAPACITY = 2,
+    /* Refused: the table is too short for so many cells. */
+    BRADAWLET_TABLE_TOO_SHORT = 3,
+    /* Refused: there are more hits than the list has places. */
+    BRADAWLET_LIST_TOO_SHORT = 10
+};
+
+/* The words that a table for so many cells needs, from 1 to 256. */
+#define BRADAWLET_WORDS(cells) ((size_t)16 + (size_t)96 * ((size_t)(cells) / 2 + 1))
+
+/*
+ * Makes a fresh table: clock 0 and no cells.
+ *
+ *   table    any words; what they held is lost
+ *   words    how many are lent
+ *   cells    the most that the table is to hold    1 to 256
+ *
+ * The answer is BRADAWLET_DONE, or the first of BRADAWLET_NO_SUCH_CAPACITY, if
+ * cells is outside its range, and BRADAWLET_TABLE_TOO_SHORT, if words is below
+ * BRADAWLET_WORDS(cells). Words past that number are not touched, and a refusal
+ * touches none.
+ */
+int32_t bradawlet_fresh(int32_t *table, size_t words, int32_t cells);
+
+/*
+ * Lists the cells that meet a window.
+ *
+ *   table    the table, which is not changed; it may hold any words
+ *   words    how many words are lent
+ *   list     where the identifiers go
+ *   places   how many there is room for; 0 will do for a question of how many
+ *   start    the first minute asked about          0 to 1440
+ *   end      the last minute asked about           0 to 1440
+ *            (equal to start: that instant alone)
+ *   xlow, xhigh, ylow, yhigh
+ *            the edges of the rectangle            -100000 to 100000 each
+ *   hits     gives how many cells meet the window
+ *   opened   gives how many nodes of the tree were opened to find them
+ *
+ * A cell meets the window exactly when at one instant, from start to end and
+ * not after the cell's expiry, x and y both lie within the rectangle. Instants
+ * between whole minutes count, and so do the edges, the start, the end and the
+ * expiry.
+ *
+ * The answer is BRADAWLET_DONE, and then the first places of the list, as many
+ * as there are hits, have the identifiers of these cells in rising order; the
+ * other places are not touched. Or it is a refusal, for the first of these
+ * reasons that holds:
+ *
+ *   BRADAWLET_UNSOUND          the words are not a sound table
+ *   BRADAWLET_OUT_OF_RANGE     an argument is outside its range
+ *   BRADAWLET_TOO_EARLY        start is before the table's clock
+ *   BRADAWLET_BACKWARD         end is before start, or a low edge is above its
+ *                              high edge
+ *   BRADAWLET_LIST_TOO_SHORT   there are more hits than places
+ *
+ * A refusal leaves the list as it was and gives 0 in hits and in opened, but
+ * BRADAWLET_LIST_TOO_SHORT gives the number of hits. A refusal is not an empty
+ * list: look at the answer before hits.
+ */
+int32_t bradawlet_window(const int32_t *table, size_t words, int32_t *list, size_t places,
+                         int32_t start, int32_t end, int32_t xlow, int32_t xhigh, int32_t ylow,
+                         int32_t yhigh, int32_t *hits, int32_t *opened);
+
+/*
+ * Lists the cells that meet a moving query: a rectangle that goes straight from
+ * the first, at start, to the second, at end.
+ *
+ *   xlow, xhigh, ylow, yhigh
+ *            the edges at start                    -100000 to 100000 each
+ *   xlow2, xhigh2, ylow2, yhigh2
+ *            the edges at end                      -100000 to 100000 each
+ *
+ * All else is as with bradawlet_window, and BRADAWLET_BACKWARD is given also
+ * when start equals end and when a low edge of the second rectangle is above
+ * its high edge. Between start and end the edges stand at fractions of a unit,
+ * and those count as well.
+ */
+int32_t bradawlet_moving(const int32_t *table, size_t words, int32_t *list, size_t places,
+                         int32_t start, int32_t end, int32_t xlow, int32_t xhigh, int32_t ylow,
+                         int32_t yhigh, int32_t xlow2, int32_t xhigh2, int32_t ylow2,
+                         int32_t yhigh2, int32_t *hits, int32_t *opened);
 
 /*
  * Says whether a reported cell meets a moving query: a rectangle that goes

@@ -7,4 +7,5 @@ pub mod meeting;
 pub mod question;
 pub mod random;
 pub mod refusal;
+pub mod tables;
 pub mod tally;

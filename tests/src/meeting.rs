@@ -1,4 +1,4 @@
-//! Whether a track meets a query, computed exactly and by trying instants.
+//! Whether what moves meets a query, computed exactly and by trying instants.
 //!
 //! `holds_at` is the rule itself, at one given instant. All of its conditions have the form
 //! "a + b × t is at least 0" for the instant t, and t is not before the start; so the instants
@@ -6,9 +6,11 @@
 //! earliest. The earliest is the start, or else some condition fails at each instant shortly
 //! before it and holds at it, which makes that condition's a + b × t exactly 0 there, with b
 //! not 0. It can't be "not after the end" or "not after the expiry", since those hold at
-//! everything earlier. So it is an instant at which the cell stands exactly on the line of one
-//! of the four edges. Hence it is enough to try the start and these instants, at most five;
-//! and a candidate that `holds_at` takes is a meeting, whichever way it was found.
+//! everything earlier. So it is an instant at which an edge of what moves stands exactly on the
+//! line of the query's opposite edge. Hence it is enough to try the start and these instants, at
+//! most five; and a candidate that `holds_at` takes is a meeting, whichever way it was found.
+//!
+//! A cell is a rectangle whose low and high edges are the same.
 
 use crate::question::{Query, Question, Report};
 
@@ -19,11 +21,19 @@ pub struct Instant {
     pub q: i128,
 }
 
-/// A coordinate of the cell: `reported` at `minute`, and from there straight on.
+/// A coordinate that is `reported` at `minute`, and from there goes straight on.
+#[derive(Clone, Copy)]
 struct Coordinate {
     reported: i128,
     velocity: i128,
     minute: i128,
+}
+
+/// What moves: on each axis a low and a high edge, and the last minute for which it counts.
+pub struct Body {
+    x: [Coordinate; 2],
+    y: [Coordinate; 2],
+    until: i32,
 }
 
 /// One edge of the query: `first` at `start`, and `last` after `length` minutes more.
@@ -34,9 +44,9 @@ struct Edge {
     length: i128,
 }
 
-/// One axis of a question: the cell's coordinate, and the edges that it must lie between.
+/// One axis: what moves, and the query's edges that it must touch the space between.
 struct Axis {
-    cell: Coordinate,
+    moved: [Coordinate; 2],
     low: Edge,
     high: Edge,
 }
@@ -55,82 +65,94 @@ impl Edge {
 }
 
 impl Coordinate {
-    /// Where the cell is at the instant, times q × length.
+    fn of(reported: i32, velocity: i32, minute: i32) -> Coordinate {
+        Coordinate { reported: reported as i128, velocity: velocity as i128, minute: minute as i128 }
+    }
+
+    /// Where it is at the instant, times q × length.
     fn scaled(&self, at: Instant, length: i128) -> i128 {
         (self.reported * at.q + self.velocity * (at.p - self.minute * at.q)) * length
     }
 
-    /// The one instant at which the cell is on the edge; none if it keeps its distance from it.
+    /// The one instant at which it is on the edge; none if it keeps its distance from it.
     fn reaches(&self, edge: &Edge) -> Option<Instant> {
-        let cell_ahead_at_0 = (self.reported - self.velocity * self.minute) * edge.length
+        let ahead_at_0 = (self.reported - self.velocity * self.minute) * edge.length
             - edge.first * edge.length
             + (edge.last - edge.first) * edge.start;
         let gain_per_minute = self.velocity * edge.length - (edge.last - edge.first);
         match gain_per_minute {
             0 => None,
-            gain if gain > 0 => Some(Instant { p: -cell_ahead_at_0, q: gain }),
-            loss => Some(Instant { p: cell_ahead_at_0, q: -loss }),
+            gain if gain > 0 => Some(Instant { p: -ahead_at_0, q: gain }),
+            loss => Some(Instant { p: ahead_at_0, q: -loss }),
         }
+    }
+}
+
+impl Body {
+    pub fn cell(report: &Report) -> Body {
+        let x = Coordinate::of(report.x, report.vx, report.minute);
+        let y = Coordinate::of(report.y, report.vy, report.minute);
+        Body { x: [x, x], y: [y, y], until: report.expiry }
+    }
+
+    /// A row an axis: low and high edge at minute 0, low and high velocity.
+    pub fn rows(rows: [[i32; 4]; 2], until: i32) -> Body {
+        let [x, y] =
+            rows.map(|[low, high, slow, fast]| [Coordinate::of(low, slow, 0), Coordinate::of(high, fast, 0)]);
+        Body { x, y, until }
+    }
+
+    fn axes(&self, query: &Query) -> [Axis; 2] {
+        let (first, last) = (&query.first, &query.last);
+        let x = Axis {
+            moved: self.x,
+            low: Edge::of(query, first.xlow, last.xlow),
+            high: Edge::of(query, first.xhigh, last.xhigh),
+        };
+        let y = Axis {
+            moved: self.y,
+            low: Edge::of(query, first.ylow, last.ylow),
+            high: Edge::of(query, first.yhigh, last.yhigh),
+        };
+        [x, y]
+    }
+
+    /// Whether the instant is in the query and not after the last minute that counts, with x and
+    /// y both touching the rectangle at it.
+    pub fn holds_at(&self, query: &Query, at: Instant) -> bool {
+        let not_before = |minute: i32| at.p >= minute as i128 * at.q;
+        let not_after = |minute: i32| at.p <= minute as i128 * at.q;
+        not_before(query.start)
+            && not_after(query.end)
+            && not_after(self.until)
+            && self.axes(query).iter().all(|axis| axis.touches_at(at))
+    }
+
+    /// Whether there is an instant at which all of it holds, for a query that is not refused.
+    pub fn meets(&self, query: &Query) -> bool {
+        let start = Instant { p: query.start as i128, q: 1 };
+        let [x, y] = self.axes(query);
+        std::iter::once(Some(start))
+            .chain(x.instants_on_an_edge())
+            .chain(y.instants_on_an_edge())
+            .flatten()
+            .any(|candidate| self.holds_at(query, candidate))
     }
 }
 
 impl Axis {
-    fn x(report: &Report, query: &Query) -> Axis {
-        Axis {
-            cell: Coordinate {
-                reported: report.x as i128,
-                velocity: report.vx as i128,
-                minute: report.minute as i128,
-            },
-            low: Edge::of(query, query.first.xlow, query.last.xlow),
-            high: Edge::of(query, query.first.xhigh, query.last.xhigh),
-        }
-    }
-
-    fn y(report: &Report, query: &Query) -> Axis {
-        Axis {
-            cell: Coordinate {
-                reported: report.y as i128,
-                velocity: report.vy as i128,
-                minute: report.minute as i128,
-            },
-            low: Edge::of(query, query.first.ylow, query.last.ylow),
-            high: Edge::of(query, query.first.yhigh, query.last.yhigh),
-        }
-    }
-
-    fn inside_at(&self, at: Instant) -> bool {
-        let cell = self.cell.scaled(at, self.low.length);
-        self.low.scaled(at) <= cell && cell <= self.high.scaled(at)
+    fn touches_at(&self, at: Instant) -> bool {
+        let [low, high] = self.moved.map(|edge| edge.scaled(at, self.low.length));
+        low <= self.high.scaled(at) && self.low.scaled(at) <= high
     }
 
     fn instants_on_an_edge(&self) -> [Option<Instant>; 2] {
-        [self.cell.reaches(&self.low), self.cell.reaches(&self.high)]
+        let [low, high] = &self.moved;
+        [low.reaches(&self.high), high.reaches(&self.low)]
     }
 }
 
-/// Whether the instant is in the query and in the cell's life, with x and y both within the
-/// rectangle at it.
-pub fn holds_at(question: &Question, at: Instant) -> bool {
-    let Question { report, query } = question;
-    let not_before = |minute: i32| at.p >= minute as i128 * at.q;
-    let not_after = |minute: i32| at.p <= minute as i128 * at.q;
-    not_before(query.start)
-        && not_after(query.end)
-        && not_after(report.expiry)
-        && Axis::x(report, query).inside_at(at)
-        && Axis::y(report, query).inside_at(at)
-}
-
-/// Whether there is an instant at which all of it holds, for a question that is not refused.
+/// Whether the cell of a question that is not refused meets its query.
 pub fn meets(question: &Question) -> bool {
-    let Question { report, query } = question;
-    let start = Instant { p: query.start as i128, q: 1 };
-    let on_x_edges = Axis::x(report, query).instants_on_an_edge();
-    let on_y_edges = Axis::y(report, query).instants_on_an_edge();
-    std::iter::once(Some(start))
-        .chain(on_x_edges)
-        .chain(on_y_edges)
-        .flatten()
-        .any(|candidate| holds_at(question, candidate))
+    Body::cell(&question.report).meets(&question.query)
 }

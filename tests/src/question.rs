@@ -48,6 +48,11 @@ pub const MINUTE: i32 = 1_440;
 /// How many numbers a moving query's call takes; a window's takes the first 13 of them.
 pub const NUMBERS: usize = 17;
 
+/// Where the numbers of the query begin in a call that has a report as well.
+pub const QUERY_AT: usize = 7;
+
+pub const QUERY_NUMBERS: usize = NUMBERS - QUERY_AT;
+
 impl Kind {
     pub fn numbers(self) -> usize {
         match self {
@@ -61,6 +66,22 @@ impl Query {
     pub fn window(start: i32, end: i32, rectangle: Rectangle) -> Query {
         Query { start, end, first: rectangle, last: rectangle }
     }
+
+    /// The numbers in the order of the call; a window's call takes the first 6 of them.
+    pub fn numbers(&self) -> [i32; QUERY_NUMBERS] {
+        let (f, l) = (self.first, self.last);
+        [self.start, self.end, f.xlow, f.xhigh, f.ylow, f.yhigh, l.xlow, l.xhigh, l.ylow, l.yhigh]
+    }
+
+    /// The query whose call has these numbers; a window has no use for the last four.
+    pub fn from_numbers(kind: Kind, n: &[i32; QUERY_NUMBERS]) -> Query {
+        let first = Rectangle { xlow: n[2], xhigh: n[3], ylow: n[4], yhigh: n[5] };
+        let last = match kind {
+            Kind::Window => first,
+            Kind::Moving => Rectangle { xlow: n[6], xhigh: n[7], ylow: n[8], yhigh: n[9] },
+        };
+        Query { start: n[0], end: n[1], first, last }
+    }
 }
 
 impl Rectangle {
@@ -72,23 +93,19 @@ impl Rectangle {
 impl Question {
     /// The numbers in the order of the call.
     pub fn numbers(&self) -> [i32; NUMBERS] {
-        let Question { report: r, query: q } = self;
-        let (f, l) = (q.first, q.last);
-        [
-            r.id, r.x, r.y, r.vx, r.vy, r.minute, r.expiry, q.start, q.end, f.xlow, f.xhigh, f.ylow, f.yhigh,
-            l.xlow, l.xhigh, l.ylow, l.yhigh,
-        ]
+        let r = &self.report;
+        let mut numbers = [0; NUMBERS];
+        numbers[..QUERY_AT].copy_from_slice(&[r.id, r.x, r.y, r.vx, r.vy, r.minute, r.expiry]);
+        numbers[QUERY_AT..].copy_from_slice(&self.query.numbers());
+        numbers
     }
 
     /// The question whose call has these numbers; a window has no use for the last four.
     pub fn from_numbers(kind: Kind, n: &[i32; NUMBERS]) -> Question {
         let report = Report { id: n[0], x: n[1], y: n[2], vx: n[3], vy: n[4], minute: n[5], expiry: n[6] };
-        let first = Rectangle { xlow: n[9], xhigh: n[10], ylow: n[11], yhigh: n[12] };
-        let last = match kind {
-            Kind::Window => first,
-            Kind::Moving => Rectangle { xlow: n[13], xhigh: n[14], ylow: n[15], yhigh: n[16] },
-        };
-        Question { report, query: Query { start: n[7], end: n[8], first, last } }
+        let mut numbers = [0; QUERY_NUMBERS];
+        numbers.copy_from_slice(&n[QUERY_AT..]);
+        Question { report, query: Query::from_numbers(kind, &numbers) }
     }
 }
 

@@ -44,4 +44,29 @@ impl Random {
         let (one, other) = (self.between(least, greatest), self.between(least, greatest));
         (one.min(other), one.max(other))
     }
+
+    /// A place in a list of so many.
+    pub fn place(&mut self, places: usize) -> usize {
+        assert!(places > 0, "no place in an empty list");
+        (self.next() % places as u64) as usize
+    }
+
+    pub fn shuffle<T>(&mut self, list: &mut [T]) {
+        for last in (1..list.len()).rev() {
+            list.swap(last, self.place(last + 1));
+        }
+    }
+
+    /// A word of any value; small ones and the ends of the type come up often.
+    pub fn rubbish(&mut self) -> i32 {
+        match self.between(0, 5) {
+            0 => self.between(-3, 12),
+            1 => self.one_of(&[i32::MIN, i32::MAX, -1, 0]),
+            _ => self.between(i32::MIN, i32::MAX),
+        }
+    }
+
+    pub fn rubbish_words(&mut self, count: usize) -> Vec<i32> {
+        (0..count).map(|_| self.rubbish()).collect()
+    }
 }

@@ -1,14 +1,18 @@
-//! The number that a meeting call must answer.
+//! The numbers of the refusals, and what a meeting call must answer.
 
 use crate::meeting::meets;
-use crate::question::{Kind, Question, Rectangle, RANGES};
+use crate::question::{Kind, Query, Question, Rectangle, QUERY_AT, RANGES};
 
 pub const NO: i32 = 0;
 pub const YES: i32 = 1;
+pub const UNSOUND: i32 = 1;
+pub const NO_SUCH_CAPACITY: i32 = 2;
+pub const TABLE_TOO_SHORT: i32 = 3;
 pub const OUT_OF_RANGE: i32 = 4;
 pub const TOO_EARLY: i32 = 5;
 pub const EXPIRED_AT_REPORT: i32 = 6;
 pub const BACKWARD: i32 = 7;
+pub const LIST_TOO_SHORT: i32 = 10;
 
 fn out_of_range(kind: Kind, question: &Question) -> bool {
     let numbers = question.numbers();
@@ -19,8 +23,7 @@ fn inside_out(rectangle: &Rectangle) -> bool {
     rectangle.xlow > rectangle.xhigh || rectangle.ylow > rectangle.yhigh
 }
 
-fn backward(kind: Kind, question: &Question) -> bool {
-    let query = &question.query;
+fn backward(kind: Kind, query: &Query) -> bool {
     query.end < query.start
         || inside_out(&query.first)
         || inside_out(&query.last)
@@ -35,11 +38,26 @@ pub fn answer(kind: Kind, question: &Question) -> i32 {
         TOO_EARLY
     } else if question.report.expiry < question.report.minute {
         EXPIRED_AT_REPORT
-    } else if backward(kind, question) {
+    } else if backward(kind, &question.query) {
         BACKWARD
     } else if meets(question) {
         YES
     } else {
         NO
+    }
+}
+
+/// Why a sound table at this clock refuses a query, whatever the list.
+pub fn query_refusal(kind: Kind, clock: i32, query: &Query) -> Option<i32> {
+    let ranges = &RANGES[QUERY_AT..kind.numbers()];
+    let inside = |(number, (least, greatest)): (&i32, &(i32, i32))| least <= number && number <= greatest;
+    if !query.numbers().iter().zip(ranges).all(inside) {
+        Some(OUT_OF_RANGE)
+    } else if query.start < clock {
+        Some(TOO_EARLY)
+    } else if backward(kind, query) {
+        Some(BACKWARD)
+    } else {
+        None
     }
 }

@@ -1,1 +1,3 @@
 pub mod Moving
+pub mod Tables
+pub mod TablesLaws

@@ -1,10 +1,18 @@
-// The calls that C and Rust link, on plain numbers.
+// The calls that C and Rust link, on plain numbers and lent words.
+use query::answer::Answer;
+use table::fresh::Made;
+use table::fresh::fresh;
 use track::cell::Cell;
 use track::meeting::answer;
 use track::minute::Minute;
 use track::query::Query;
+use words::number;
+ghost use lib.Signed.{_≤ℤ_, _<ℤ_};
+ghost use Rattle.track.specs.Query.{queryFrom, windowFrom};
 ghost use Rattle.track.specs.Refusals.{Gives};
+ghost use Rattle.query.specs.Few.{Few};
 ghost use Rattle.calls.specs.Moving.{movingAnswers};
+ghost use Rattle.calls.specs.Tables.{FreshGives, InNumbers, QueryGives};
 
 // Whether the cell of a report meets a moving query: 1 for yes, 0 for no, else the refusal's number.
 #[no_mangle]
@@ -45,4 +53,96 @@ pub extern "C" fn bradawlet_meets_moving(
         yhigh2,
     );
     answer(reported, asked)
+}
+
+// Makes a fresh table for so many cells: 0, or the refusal's number.
+#[no_mangle]
+pub extern "C" fn bradawlet_fresh(table: &mut [i32], cells: i32) -> i32
+    ensures { λ r. ⌜ FreshGives cells (now (table .entry)) r (now (table .exit)) ⌝ }
+{
+    match fresh(table, cells) {
+        Made::Fresh => 0,
+        Made::Refused(why) => why.number(),
+    }
+}
+
+// Hands an answer's counts over, and tells its number.
+fn in_numbers(answer: Answer, hits: &mut i32, opened: &mut i32) -> i32
+    requires { ⌜ Few answer ⌝ }
+    ensures { λ r. ⌜ InNumbers answer r (now (hits .exit)) (now (opened .exit)) ⌝ }
+{
+    match answer {
+        Answer::Listed(found) => {
+            *hits = number(found.hits);
+            *opened = number(found.opened);
+            0
+        }
+        Answer::TooMany(n) => {
+            *hits = number(n);
+            *opened = 0;
+            10
+        }
+        Answer::Refused(why) => {
+            *hits = 0;
+            *opened = 0;
+            why.number()
+        }
+    }
+}
+
+// Lists the cells that meet a window: 0, or the refusal's number.
+#[no_mangle]
+pub extern "C" fn bradawlet_window(
+    table: &[i32],
+    list: &mut [i32],
+    start: i32,
+    end: i32,
+    xlow: i32,
+    xhigh: i32,
+    ylow: i32,
+    yhigh: i32,
+    hits: &mut i32,
+    opened: &mut i32,
+) -> i32
+    ensures { λ r. ⌜ QueryGives (now (table .entry)) (end <ℤ start) (windowFrom start end xlow xhigh ylow yhigh) (now (list .entry)) r (now (hits .exit)) (now (opened .exit)) (now (list .exit)) ⌝ }
+{
+    let answer = query::window(table, list, start, end, xlow, xhigh, ylow, yhigh);
+    in_numbers(answer, hits, opened)
+}
+
+// Lists the cells that meet a moving query: 0, or the refusal's number.
+#[no_mangle]
+pub extern "C" fn bradawlet_moving(
+    table: &[i32],
+    list: &mut [i32],
+    start: i32,
+    end: i32,
+    xlow: i32,
+    xhigh: i32,
+    ylow: i32,
+    yhigh: i32,
+    xlow2: i32,
+    xhigh2: i32,
+    ylow2: i32,
+    yhigh2: i32,
+    hits: &mut i32,
+    opened: &mut i32,
+) -> i32
+    ensures { λ r. ⌜ QueryGives (now (table .entry)) (end ≤ℤ start) (queryFrom start end xlow xhigh ylow yhigh xlow2 xhigh2 ylow2 yhigh2) (now (list .entry)) r (now (hits .exit)) (now (opened .exit)) (now (list .exit)) ⌝ }
+{
+    let answer = query::moving(
+        table,
+        list,
+        start,
+        end,
+        xlow,
+        xhigh,
+        ylow,
+        yhigh,
+        xlow2,
+        xhigh2,
+        ylow2,
+        yhigh2,
+    );
+    in_numbers(answer, hits, opened)
 }

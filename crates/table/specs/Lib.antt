@@ -11,3 +11,5 @@ pub mod ScanParts
 pub mod Scan
 pub mod Ready
 pub mod SoundBy
+pub mod Fresh
+pub mod FreshLaws

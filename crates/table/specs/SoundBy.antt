@@ -92,7 +92,7 @@ pos-same m n e = cc
 ids-once : (l : List Entry) → ((e : Entry) → e ∈ l → CellInRange (cellOf e)) → NoRepeat (map keyOf l) → NoRepeat (map identifier (map cellOf l))
 ids-once l f n = subst NoRepeat (keys-ids l f) (no-repeat-map pos pos-same n)
 
-keys-once : (l : List Entry) → ((e : Entry) → e ∈ l → CellInRange (cellOf e)) → NoRepeat (map identifier (map cellOf l)) → NoRepeat (map keyOf l)
+pub keys-once : (l : List Entry) → ((e : Entry) → e ∈ l → CellInRange (cellOf e)) → NoRepeat (map identifier (map cellOf l)) → NoRepeat (map keyOf l)
 keys-once l f n = map-no-repeat pos (map keyOf l) (subst NoRepeat (sym (keys-ids l f)) n)
 
 -- ---- the test's parts and `Sound`

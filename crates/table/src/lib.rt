@@ -1,4 +1,5 @@
 // A table of words: what is sound, and a fresh one.
+pub mod fresh;
 pub mod header;
 pub mod scan;
 pub mod sound;

@@ -78,11 +78,10 @@ module _ {A : Type 0} where
       let h₂ : m ≤ length (drop b f) = omega (arith, length-drop b f) in
       rw (drop-append-le b f x, take-append-le m (drop b f) x)
 
-  part-behind : (f x : List A) (n b m : ℕ) → length f ≡ n → n ≤ b → part (f ++ x) b m ≡ part x (b - n) m
-  unfolding part
-  part-behind f x n b m e h =
+  drop-behind : (f x : List A) (n b : ℕ) → length f ≡ n → n ≤ b → drop b (f ++ x) ≡ drop (b - n) x
+  drop-behind f x n b e h =
       let at : b ≡ length f + (b - n) = omega arith in
-      ap (λ (j : ℕ). take m (drop j (f ++ x))) at ∙ ap (take m) (drop-append-add f x (b - n))
+      ap (λ (j : ℕ). drop j (f ++ x)) at ∙ drop-append-add f x (b - n)
 
   -- ---- a part that lies apart from what was put is as it was, also where it reaches past the end
   pub part-put-below : (w : List A) (a k : ℕ) (p : List A) (b m : ℕ) → a + k ≤ length w → b + m ≤ a → part (put w a k p) b m ≡ part w b m
@@ -93,15 +92,19 @@ module _ {A : Type 0} where
       ∙ sym (part-front (take a w) (drop a w) b m below)
       ∙ ap (λ (l : List A). part l b m) (take-append-drop a w)
 
-  pub part-put-above : (w : List A) (a k : ℕ) (p : List A) (b m : ℕ) → a + k ≤ length w → length p ≡ k → a + k ≤ b → part (put w a k p) b m ≡ part w b m
+  pub drop-put-above : (w : List A) (a k : ℕ) (p : List A) (b : ℕ) → a + k ≤ length w → length p ≡ k → a + k ≤ b → drop b (put w a k p) ≡ drop b w
   unfolding put
-  part-put-above w a k p b m fits long h =
-      behind p long ∙ sym (behind (part w a k) (length-part w a k fits)) ∙ ap (λ (l : List A). part l b m) (put-part w a k)
+  drop-put-above w a k p b fits long h =
+      behind p long ∙ sym (behind (part w a k) (length-part w a k fits)) ∙ ap (drop b) (put-part w a k)
     where
-      behind : (q : List A) → length q ≡ k → part (put w a k q) b m ≡ part (drop k (drop a w)) (b - (a + k)) m
+      behind : (q : List A) → length q ≡ k → drop b (put w a k q) ≡ drop (b - (a + k)) (drop k (drop a w))
       behind q e =
           let both = length-head w a k q (omega arith) e in
-          rw (← append-assoc (take a w) q (drop k (drop a w))) (part-behind (take a w ++ q) (drop k (drop a w)) (a + k) b m both h)
+          rw (← append-assoc (take a w) q (drop k (drop a w))) (drop-behind (take a w ++ q) (drop k (drop a w)) (a + k) b both h)
+
+  pub part-put-above : (w : List A) (a k : ℕ) (p : List A) (b m : ℕ) → a + k ≤ length w → length p ≡ k → a + k ≤ b → part (put w a k p) b m ≡ part w b m
+  unfolding part
+  part-put-above w a k p b m fits long h = ap (take m) (drop-put-above w a k p b fits long h)
 
   -- ---- records of one size, side by side from `base` on: one that is put leaves each other as it was
   pub record-other : (w : List A) (base size i : ℕ) (p : List A) (j : ℕ) → base + size * i + size ≤ length w → length p ≡ size → (j ≡ i → ⊥)

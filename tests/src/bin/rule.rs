@@ -1,8 +1,8 @@
 //! Checks the exact computation itself, with no library: on the tracks whose answers are given,
-//! and against a search through every fraction on small numbers.
+//! and against a search through every fraction on small numbers, for cells and for entries.
 
 use outside::families;
-use outside::meeting::{holds_at, meets, Instant};
+use outside::meeting::{Body, Instant};
 use outside::question::{Kind, Query, Question, Rectangle, Report};
 use outside::random::Random;
 use outside::refusal::answer;
@@ -75,29 +75,44 @@ fn track_agrees(track: &Track) -> bool {
 }
 
 /// Tries every fraction of the query whose denominator is at most `finest`.
-fn found_by_search(question: &Question, finest: i128) -> bool {
-    let Query { start, end, .. } = question.query;
-    (1..=finest).any(|q| (start as i128 * q..=end as i128 * q).any(|p| holds_at(question, Instant { p, q })))
+fn found_by_search(body: &Body, query: &Query, finest: i128) -> bool {
+    let (start, end) = (query.start as i128, query.end as i128);
+    (1..=finest).any(|q| (start * q..=end * q).any(|p| body.holds_at(query, Instant { p, q })))
 }
 
-/// With small numbers a cell gains at most 30 parts a minute on an edge, counted in parts of
-/// one over the query's length: 6 minutes times velocity 3, and 12 for the edge's own way. So
-/// the earliest meeting, if there is one, has a denominator of at most 30.
+/// With small numbers an edge gains at most 30 parts a minute on one of the query's, counted in
+/// parts of one over the query's length: 6 minutes times velocity 3, and 12 for the query's edge's
+/// own way. So the earliest meeting, if there is one, has a denominator of at most 30.
 const FINEST: i128 = 30;
 
-fn search_agrees(kind: Kind) -> bool {
+fn cell(question: &Question, _: &mut Random) -> Body {
+    Body::cell(&question.report)
+}
+
+/// An entry as small as the cell of the question.
+fn entry(question: &Question, random: &mut Random) -> Body {
+    let rows = [0, 1].map(|_| {
+        let (low, high) = random.ordered(-6, 6);
+        let (slow, fast) = random.ordered(-3, 3);
+        [low, high, slow, fast]
+    });
+    Body::rows(rows, question.report.expiry)
+}
+
+fn search_agrees(kind: Kind, name: &str, body: fn(&Question, &mut Random) -> Body) -> bool {
     let mut random = Random::seeded(0x3000);
     let mut found = [0, 0];
     for _ in 0..SEARCHES {
         let question = families::small_and_accepted(&mut random, kind);
-        let searched = found_by_search(&question, FINEST);
+        let body = body(&question, &mut random);
+        let searched = found_by_search(&body, &question.query, FINEST);
         found[searched as usize] += 1;
-        if meets(&question) != searched {
-            println!("FAILED search says {searched}: {:?}", question.numbers());
+        if body.meets(&question.query) != searched {
+            println!("FAILED {name}, search says {searched}: {:?}", question.numbers());
             return false;
         }
     }
-    println!("{kind:?} small, searched: no {}, yes {}", found[0], found[1]);
+    println!("{kind:?} small {name}, searched: no {}, yes {}", found[0], found[1]);
     found.iter().all(|&count| count > 0)
 }
 
@@ -106,7 +121,9 @@ fn main() -> ExitCode {
     for track in &TRACKS {
         tally.check(track_agrees(track));
     }
-    tally.check(search_agrees(Kind::Window));
-    tally.check(search_agrees(Kind::Moving));
+    for kind in [Kind::Window, Kind::Moving] {
+        tally.check(search_agrees(kind, "cells", cell));
+        tally.check(search_agrees(kind, "entries", entry));
+    }
     tally.report()
 }

@@ -1,0 +1,68 @@
+use mathlib.Core.Path.{refl, subst, _∙_}
+use native.Mathlib.Omega.{arith}
+use borrow.Author.Needs.{needs}
+use Rattle.whole.specs.Within.{word-back}
+use Rattle.query.specs.Few.{Few}
+use Rattle.calls.proofs.in_numbers.Statement.{statement}
+use Rattle.calls.proofs.in_numbers.Tie as tie
+
+enum-known-answer : tie.Need-enum-known-answer
+enum-known-answer c = search needs
+
+number-requires : tie.Need-number-requires
+number-requires c κs =
+    let few = subst Few (c .before .answer .given .1) (c .before .before .before .pre) in
+    omega (arith, few .few-hits)
+
+number-requires-2 : tie.Need-number-requires-2
+number-requires-2 c κs =
+    let few = subst Few (c .before .before .answer .given .1) (c .before .before .before .before .pre) in
+    omega (arith, few .few-opened)
+
+enum-known-answer-2 : tie.Need-enum-known-answer-2
+enum-known-answer-2 c = search needs
+
+number-requires-3 : tie.Need-number-requires-3
+number-requires-3 c κs =
+    let few = subst Few (c .before .answer2 .given .1) (c .before .before .before .pre) in
+    omega (arith, few .few-hits)
+
+enum-known-answer-3 : tie.Need-enum-known-answer-3
+enum-known-answer-3 c = search needs
+
+number-requires-4 : tie.Need-number-requires-4
+number-requires-4 c κs = search needs
+
+returns : tie.Need-returns
+returns c =
+    rw (c .before .before .before .answer .given .1)
+    (record {
+      number-is = refl;
+      hits-is = word-back (c .before .number .result) (c .before .number .ok) ∙ c .before .number .ensures;
+      opened-is = word-back (c .number2 .result) (c .number2 .ok) ∙ c .number2 .ensures;
+    })
+
+returns-2 : tie.Need-returns-2
+returns-2 c =
+    rw (c .before .before .answer2 .given .1)
+    (record { number-is = refl; hits-is = word-back (c .number3 .result) (c .number3 .ok) ∙ c .number3 .ensures; opened-is = refl })
+
+returns-3 : tie.Need-returns-3
+returns-3 c =
+    rw (c .before .before .answer3 .given .1)
+    (record { number-is = word-back (c .number4 .result) (c .number4 .ok) ∙ c .number4 .ensures; hits-is = refl; opened-is = refl })
+
+pub in-numbers-spec : {M : Type 1} → statement M
+in-numbers-spec =
+    tie.close
+    (tie.spec
+    enum-known-answer
+    number-requires
+    number-requires-2
+    enum-known-answer-2
+    number-requires-3
+    enum-known-answer-3
+    number-requires-4
+    returns
+    returns-2
+    returns-3)

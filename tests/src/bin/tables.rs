@@ -1,0 +1,100 @@
+//! Compares the calls of libcalls.a over tables with a plain scan and a judge of their own.
+
+use outside::question::{Kind, QUERY_NUMBERS};
+use outside::tables::families;
+use outside::tables::library::{Answer, Library};
+use std::process::ExitCode;
+
+#[link(name = "calls", kind = "static")]
+extern "C" {
+    fn bradawlet_fresh(table: *mut i32, words: usize, cells: i32) -> i32;
+
+    fn bradawlet_window(
+        table: *const i32,
+        words: usize,
+        list: *mut i32,
+        places: usize,
+        start: i32,
+        end: i32,
+        xlow: i32,
+        xhigh: i32,
+        ylow: i32,
+        yhigh: i32,
+        hits: *mut i32,
+        opened: *mut i32,
+    ) -> i32;
+
+    fn bradawlet_moving(
+        table: *const i32,
+        words: usize,
+        list: *mut i32,
+        places: usize,
+        start: i32,
+        end: i32,
+        xlow: i32,
+        xhigh: i32,
+        ylow: i32,
+        yhigh: i32,
+        xlow2: i32,
+        xhigh2: i32,
+        ylow2: i32,
+        yhigh2: i32,
+        hits: *mut i32,
+        opened: *mut i32,
+    ) -> i32;
+}
+
+fn fresh(table: &mut [i32], cells: i32) -> i32 {
+    // The words are ours, and lent with their number.
+    unsafe { bradawlet_fresh(table.as_mut_ptr(), table.len(), cells) }
+}
+
+fn query(kind: Kind, table: &mut [i32], list: &mut [i32], numbers: &[i32; QUERY_NUMBERS]) -> Answer {
+    let [start, end, xlow, xhigh, ylow, yhigh, xlow2, xhigh2, ylow2, yhigh2] = *numbers;
+    // Neither is what any call answers, so that both must be written.
+    let (mut hits, mut opened) = (-77, -78);
+    let (words, places) = (table.len(), list.len());
+    let (table, list) = (table.as_mut_ptr(), list.as_mut_ptr());
+    // Table and list are ours, apart from each other, and lent with their lengths.
+    let number = unsafe {
+        match kind {
+            Kind::Window => bradawlet_window(
+                table,
+                words,
+                list,
+                places,
+                start,
+                end,
+                xlow,
+                xhigh,
+                ylow,
+                yhigh,
+                &mut hits,
+                &mut opened,
+            ),
+            Kind::Moving => bradawlet_moving(
+                table,
+                words,
+                list,
+                places,
+                start,
+                end,
+                xlow,
+                xhigh,
+                ylow,
+                yhigh,
+                xlow2,
+                xhigh2,
+                ylow2,
+                yhigh2,
+                &mut hits,
+                &mut opened,
+            ),
+        }
+    };
+    Answer { number, hits, opened }
+}
+
+fn main() -> ExitCode {
+    families::run(&Library { fresh, query }).report()
+}

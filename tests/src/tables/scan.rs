@@ -1,0 +1,79 @@
+//! What a query must answer: every cell tried one by one, and the opened nodes counted by their
+//! definition.
+
+use super::judge;
+use super::layout::CLOCK;
+use super::library::Answer;
+use super::reading::{self, Reached};
+use super::worlds::Cell;
+use crate::meeting::Body;
+use crate::question::{Kind, Query, Report};
+use crate::refusal::{query_refusal, LIST_TOO_SHORT, UNSOUND};
+
+#[derive(Clone, Copy, Debug)]
+pub struct Asked {
+    pub kind: Kind,
+    pub query: Query,
+}
+
+/// The answer, but for the length of the list.
+pub enum Truth {
+    Refused(i32),
+    Met { ids: Vec<i32>, opened: i32 },
+}
+
+pub fn body(cell: &Cell) -> Body {
+    let Cell { id, x, vx, y, vy, expiry } = *cell;
+    Body::cell(&Report { id, x, y, vx, vy, minute: 0, expiry })
+}
+
+/// For words that may be anything.
+pub fn truth(words: &[i32], asked: &Asked) -> Truth {
+    if judge::sound(words) {
+        truth_if_sound(words, asked)
+    } else {
+        Truth::Refused(UNSOUND)
+    }
+}
+
+/// For words that are known to be a sound table.
+pub fn truth_if_sound(words: &[i32], asked: &Asked) -> Truth {
+    if let Some(number) = query_refusal(asked.kind, words[CLOCK], &asked.query) {
+        return Truth::Refused(number);
+    }
+    let cells = reading::cells(words);
+    let met = cells.iter().filter(|cell| body(cell).meets(&asked.query));
+    let mut ids: Vec<i32> = met.map(|cell| cell.id).collect();
+    ids.sort_unstable();
+    Truth::Met { ids, opened: opened(words, reading::root(words), &asked.query) }
+}
+
+/// How many nodes are opened from an opened node on, itself counted.
+fn opened(words: &[i32], from: Reached, query: &Query) -> i32 {
+    let mut all = 1;
+    for inner in reading::children(words, from) {
+        let (rows, until) = reading::bounds(words, inner.at);
+        if Body::rows(rows, until).meets(query) {
+            all += opened(words, inner.child, query);
+        }
+    }
+    all
+}
+
+impl Truth {
+    /// The answer, and the list afterwards.
+    pub fn with_list(&self, list: &[i32]) -> (Answer, Vec<i32>) {
+        let mut after = list.to_vec();
+        let answer = match self {
+            Truth::Refused(number) => Answer { number: *number, hits: 0, opened: 0 },
+            Truth::Met { ids, .. } if ids.len() > list.len() => {
+                Answer { number: LIST_TOO_SHORT, hits: ids.len() as i32, opened: 0 }
+            }
+            Truth::Met { ids, opened } => {
+                after[..ids.len()].copy_from_slice(ids);
+                Answer { number: 0, hits: ids.len() as i32, opened: *opened }
+            }
+        };
+        (answer, after)
+    }
+}

@@ -1,0 +1,209 @@
+/*
+ * Makes fresh tables and asks them, from C: every number that these calls give.
+ * Prints a line for each check that fails, and last the counts.
+ */
+#include "calls.h"
+
+#include <stdbool.h>
+#include <stdio.h>
+#include <stdlib.h>
+#include <string.h>
+
+enum { CELLS = 9, PLACES = 4, EXTRA = 5, RUBBISH = -559038737 };
+
+/* What a query answered. */
+struct answer {
+    int32_t number, hits, opened;
+};
+
+struct query {
+    int32_t start, end;
+    int32_t first[4], last[4];
+};
+
+static unsigned passed, failed;
+
+static void check(const char *name, bool holds)
+{
+    if (holds) {
+        passed++;
+        return;
+    }
+    failed++;
+    printf("FAILED %s\n", name);
+}
+
+/* Memory of just this size, so that the sanitizer sees what goes past its end. */
+static int32_t *rubbish(size_t words)
+{
+    int32_t *memory = malloc((words > 0 ? words : 1) * sizeof *memory);
+    if (memory == NULL)
+        abort();
+    for (size_t i = 0; i < words; i++)
+        memory[i] = RUBBISH;
+    return memory;
+}
+
+static bool all_rubbish(const int32_t *memory, size_t words)
+{
+    for (size_t i = 0; i < words; i++)
+        if (memory[i] != RUBBISH)
+            return false;
+    return true;
+}
+
+static struct answer window(const int32_t *table, size_t words, int32_t *list, size_t places,
+                            struct query q)
+{
+    struct answer a = {RUBBISH, RUBBISH, RUBBISH};
+    a.number = bradawlet_window(table, words, list, places, q.start, q.end, q.first[0], q.first[1],
+                                q.first[2], q.first[3], &a.hits, &a.opened);
+    return a;
+}
+
+static struct answer moving(const int32_t *table, size_t words, int32_t *list, size_t places,
+                            struct query q)
+{
+    struct answer a = {RUBBISH, RUBBISH, RUBBISH};
+    a.number = bradawlet_moving(table, words, list, places, q.start, q.end, q.first[0], q.first[1],
+                                q.first[2], q.first[3], q.last[0], q.last[1], q.last[2], q.last[3],
+                                &a.hits, &a.opened);
+    return a;
+}
+
+static bool is(struct answer a, int32_t number, int32_t hits, int32_t opened)
+{
+    return a.number == number && a.hits == hits && a.opened == opened;
+}
+
+static void check_fresh(int32_t cells, size_t words, int32_t number)
+{
+    char name[80];
+    int32_t *table = rubbish(words);
+    snprintf(name, sizeof name, "fresh for %d cells in %zu words", (int)cells, words);
+    check(name, bradawlet_fresh(table, words, cells) == number);
+    size_t untouched_from = number == BRADAWLET_DONE ? BRADAWLET_WORDS(cells) : 0;
+    check(name, all_rubbish(table + untouched_from, words - untouched_from));
+    free(table);
+}
+
+/* Asks a window and the same rectangle as a moving query: both must answer this, write these
+   identifiers and nothing else. */
+static void check_query(const char *name, const int32_t *table, size_t words, size_t places,
+                        struct query q, struct answer expected, const int32_t *identifiers)
+{
+    size_t written = expected.number == BRADAWLET_DONE ? (size_t)expected.hits : 0;
+    int32_t *before = rubbish(words);
+    memcpy(before, table, words * sizeof *table);
+    for (int kind = 0; kind < 2; kind++) {
+        int32_t *list = rubbish(places);
+        struct answer a = (kind == 0 ? window : moving)(table, words, list, places, q);
+        check(name, is(a, expected.number, expected.hits, expected.opened));
+        check(name, memcmp(list, identifiers, written * sizeof *list) == 0);
+        check(name, all_rubbish(list + written, places - written));
+        check(name, memcmp(table, before, words * sizeof *table) == 0);
+        free(list);
+    }
+    free(before);
+}
+
+/* Writes a cell into a fresh table whose root is still a leaf, as its words are laid out: the
+   root's count, and the cell's six numbers. */
+static void put(int32_t *table, const int32_t cell[6])
+{
+    int32_t *root = table + 16 + 96 * table[2];
+    memcpy(root + 8 + 11 * root[0], cell, 6 * sizeof *cell);
+    root[0]++;
+}
+
+static void check_queries(void)
+{
+    static const int32_t third[6] = {9, 0, 3, 0, 3, 40}, expired[6] = {5, 0, 0, 0, 0, 9},
+                         still[6] = {INT32_MAX, 1, 0, 1, 0, 1440}, early[6] = {2, 1, 0, 1, 0, 10};
+    static const int32_t none[1] = {0}, at_11[2] = {9, INT32_MAX}, at_10[2] = {2, INT32_MAX};
+    const size_t words = BRADAWLET_WORDS(CELLS) + EXTRA;
+    const struct query whole = {10, 11, {-9, 9, -9, 9}, {-9, 9, -9, 9}};
+    const struct answer unsound = {BRADAWLET_UNSOUND, 0, 0};
+    int32_t *table = rubbish(words);
+
+    check_query("rubbish", table, words, PLACES, whole, unsound, none);
+    check_query("no words", table, 0, PLACES, whole, unsound, none);
+    check("a fresh table", bradawlet_fresh(table, words, CELLS) == BRADAWLET_DONE);
+    check_query("fresh", table, words, PLACES, whole, (struct answer){0, 0, 1}, none);
+    check_query("fresh, no list", table, words, 0, whole, (struct answer){0, 0, 1}, none);
+    check_query("a word too few", table, BRADAWLET_WORDS(CELLS) - 1, PLACES, whole, unsound, none);
+
+    put(table, still);
+    put(table, third);
+    put(table, expired);
+    put(table, early);
+    table[1] = 10;
+
+    struct query q = {11, 12, {1, 34, 1, 34}, {1, 34, 1, 34}};
+    check_query("two hits", table, words, PLACES, q, (struct answer){0, 2, 1}, at_11);
+    check_query("two hits, two places", table, words, 2, q, (struct answer){0, 2, 1}, at_11);
+    check_query("two hits, one place", table, words, 1, q, (struct answer){10, 2, 0}, none);
+    check_query("two hits, no list", table, words, 0, q, (struct answer){10, 2, 0}, none);
+    q = (struct query){10, 11, {1, 1, 1, 1}, {1, 1, 1, 1}};
+    check_query("at the expiry", table, words, PLACES, q, (struct answer){0, 2, 1}, at_10);
+    q = (struct query){11, 12, {34, 34, 34, 34}, {34, 34, 34, 34}};
+    check_query("at a third of a minute", table, words, PLACES, q, (struct answer){0, 1, 1}, at_11);
+    q = (struct query){11, 12, {34, 34, 35, 35}, {34, 34, 35, 35}};
+    check_query("x and y in turn", table, words, PLACES, q, (struct answer){0, 0, 1}, none);
+
+    struct query wrong = whole;
+    wrong.first[3] = wrong.last[3] = 100001;
+    check_query("4: an edge out of range", table, words, 0, wrong, (struct answer){4, 0, 0}, none);
+    wrong = whole;
+    wrong.start = -1;
+    check_query("4 before 5", table, words, 0, wrong, (struct answer){4, 0, 0}, none);
+    wrong.start = 9;
+    check_query("5: before the clock", table, words, 0, wrong, (struct answer){5, 0, 0}, none);
+    wrong.end = 8;
+    check_query("5 before 7", table, words, 0, wrong, (struct answer){5, 0, 0}, none);
+    wrong.start = 40;
+    wrong.end = 12;
+    check_query("7: start, end transposed", table, words, 0, wrong, (struct answer){7, 0, 0}, none);
+    wrong = whole;
+    wrong.first[0] = wrong.last[0] = 10;
+    check_query("7: xlow above xhigh", table, words, 0, wrong, (struct answer){7, 0, 0}, none);
+
+    int32_t list[PLACES];
+    wrong = whole;
+    wrong.last[2] = 10;
+    check("7: ylow2 above yhigh2", is(moving(table, words, list, PLACES, wrong), 7, 0, 0));
+    wrong = whole;
+    wrong.end = wrong.start;
+    check("7: start equals end", is(moving(table, words, list, PLACES, wrong), 7, 0, 0));
+    check("a window of one instant", is(window(table, words, list, PLACES, wrong), 0, 2, 1));
+    q = (struct query){10, 20, {0, 0, 0, 0}, {60, 60, 60, 60}};
+    check("met at 10 and 1/6, and at the end", is(moving(table, words, list, PLACES, q), 0, 2, 1));
+
+    table[16 + 96 * table[2]] = 9;
+    check_query("nine entries", table, words, 0, wrong, unsound, none);
+    free(table);
+}
+
+int main(void)
+{
+    /* A failure is printed even if the sanitizer ends the program after it. */
+    setvbuf(stdout, NULL, _IOLBF, BUFSIZ);
+    static const int32_t capacities[] = {1, 2, 3, CELLS, 255, 256};
+    for (size_t i = 0; i < sizeof capacities / sizeof capacities[0]; i++) {
+        size_t need = BRADAWLET_WORDS(capacities[i]);
+        check_fresh(capacities[i], need - 1, BRADAWLET_TABLE_TOO_SHORT);
+        check_fresh(capacities[i], need, BRADAWLET_DONE);
+        check_fresh(capacities[i], need + EXTRA, BRADAWLET_DONE);
+    }
+    check_fresh(256, 12399, BRADAWLET_TABLE_TOO_SHORT);
+    check_fresh(256, 12400, BRADAWLET_DONE);
+    check_fresh(1, 0, BRADAWLET_TABLE_TOO_SHORT);
+    check_fresh(0, 0, BRADAWLET_NO_SUCH_CAPACITY);
+    check_fresh(0, 112, BRADAWLET_NO_SUCH_CAPACITY);
+    check_fresh(257, BRADAWLET_WORDS(257), BRADAWLET_NO_SUCH_CAPACITY);
+    check_fresh(INT32_MIN, 112, BRADAWLET_NO_SUCH_CAPACITY);
+    check_fresh(INT32_MAX, 12400, BRADAWLET_NO_SUCH_CAPACITY);
+    check_queries();
+    printf("%u passed, %u failed\n", passed, failed);
+    return failed != 0;
+}
