@@ -89,5 +89,6 @@ pub fn number(line: &[u8], at: usize) -> Found
     let Found::Number(size, next) = digits(line, at + 1) else {
         return Found::Bad;
     };
-    Found::Number(-size, next)
+    let negative = -size;
+    Found::Number(negative, next)
 }

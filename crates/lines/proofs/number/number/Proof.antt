@@ -54,8 +54,8 @@ small c =
     let s = c .before .before .before .before .before .before .before in
     digits-in (s .args .line .now) (s .args .at + 1) (c .size .given .0 .1 .0) (read c)
 
-sub-t10 : tie.Need-sub-t10
-sub-t10 c = simp (read32 tt (small (c .before))) (fits tt (sub-in (lit-in 0 {bound = 0} tt) (small (c .before))))
+sub-negative : tie.Need-sub-negative
+sub-negative c = simp (read32 tt (small (c .before))) (fits tt (sub-in (lit-in 0 {bound = 0} tt) (small (c .before))))
 
 returns-4 : tie.Need-returns-4
 returns-4 c =
@@ -78,5 +78,5 @@ number-spec =
     enum-known-size
     enum-told
     returns-3
-    sub-t10
+    sub-negative
     returns-4)
