@@ -1,0 +1,5 @@
+pub mod Decimal
+pub mod Answers
+pub mod DecimalLaws
+pub mod Putting
+pub mod LineLaws
