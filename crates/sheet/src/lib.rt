@@ -1,0 +1,2 @@
+// The sheet: a table's clock and live cells as bytes.
+pub mod bytes;
