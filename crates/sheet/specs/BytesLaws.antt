@@ -1,13 +1,13 @@
 -- Laws of words as bytes: there and back, and words of a part of a list.
 use mathlib.Core.Path.{_≡_, refl, sym, ap, _∙_}
-use mathlib.Core.List.{List, [], _∷_}
+use mathlib.Core.List.{List, [], _∷_, _++_}
 use Prim.Native.Nat.{ℕ, suc, _+_, _*_, _/_, _%_, _^_, _≤_, _<_}
 use native.Mathlib.Omega.{arith}
 use native.Mathlib.Nat.{add-assoc}
 use native.Mathlib.Numerals.{add-one, add-two, add-three}
 use lib.IntN.{ℤ, pos}
-use lib.ListN.{length, getD, set, List·getD-eq-default}
-use lib.Seq.{drop-cons}
+use lib.ListN.{length, getD, set, List·getD-append, List·getD-eq-default}
+use lib.Seq.{drop-cons, getD-append-add}
 use mir.Syntax.{w32}
 use mir.Val.{Fits, SFits, toZ, ofZ}
 use mir.ValLaws as ValLaws
@@ -80,6 +80,24 @@ word-past bytes at h = rw (past at h, past (at + 1) (omega arith), past (at + 2)
   where
     past : (i : ℕ) → length bytes ≤ i → byteAt bytes i ≡ 0
     past i = List·getD-eq-default bytes 0
+
+-- ---- words of two lists one after the other
+pub word-front : (s r : List ℕ) (at : ℕ) → at + wordBytes ≤ length s → wordAt (s ++ r) at ≡ wordAt s at
+unfolding wordAt unsignedAt
+word-front s r at h = rw (first at (omega arith), first (at + 1) (omega arith), first (at + 2) (omega arith), first (at + 3) (omega arith))
+  where
+    first : (i : ℕ) → i < length s → byteAt (s ++ r) i ≡ byteAt s i
+    first i = List·getD-append s r 0 i
+
+pub word-behind : (s r : List ℕ) (n at : ℕ) → length s ≡ n → wordAt (s ++ r) (n + at) ≡ wordAt r at
+unfolding wordAt unsignedAt
+word-behind s r n at long = rw (second at, next 1, next 2, next 3)
+  where
+    second : (i : ℕ) → byteAt (s ++ r) (n + i) ≡ byteAt r i
+    second i = rw (← long) (getD-append-add s r i 0)
+
+    next : (i : ℕ) → byteAt (s ++ r) (n + at + i) ≡ byteAt r (at + i)
+    next i = rw add-assoc (second (at + i))
 
 -- ---- how the code reads and writes a word
 pub word-read : (bytes : List ℕ) (at : ℕ) {a b c d : ℕ} → a ≡ byteAt bytes at → b ≡ byteAt bytes (at + 1) → c ≡ byteAt bytes (at + 2) → d ≡ byteAt bytes (at + 3)

@@ -1,11 +1,14 @@
 // Words in a slice of bytes: little-endian, two's complement.
 ghost use mathlib.Core.Path.{_≡_};
-ghost use Prim.Native.Nat.{_+_, _<_, _≤_};
+ghost use Prim.Native.Nat.{_+_, _*_, _<_, _≤_};
 ghost use lib.ListN.{length};
 ghost use mir.Syntax.{w32};
 ghost use mir.Val.{toZ, ofZ};
 ghost use Rattle.words.specs.Parts.{put};
 ghost use Rattle.sheet.specs.Bytes.{byteAt, wordAt, bytesOf, wordBytes};
+ghost use Rattle.sheet.specs.Sheet.{bytesOfAll};
+
+const WORD: usize = 4;
 
 const HALF: u32 = 2147483648;
 
@@ -65,4 +68,16 @@ pub fn put_word(bytes: &mut [u8], at: usize, z: i32)
     bytes[at + 1] = (n / 256 % 256) as u8;
     bytes[at + 2] = (n / 256 / 256 % 256) as u8;
     bytes[at + 3] = (n / 256 / 256 / 256 % 256) as u8;
+}
+
+// Writes the bytes of words one after the other from a place on.
+pub fn put_words(bytes: &mut [u8], at: usize, words: &[i32])
+    requires { ⌜ at + wordBytes * length (now words) ≤ length (now bytes) ⌝ }
+    ensures { λ _. ⌜ now (bytes .exit) ≡ put (now (bytes .entry)) at (wordBytes * length (now (words .entry))) (bytesOfAll (now (words .entry))) ⌝ }
+{
+    let mut j = 0;
+    while j < words.len() {
+        put_word(bytes, at + WORD * j, words[j]);
+        j += 1;
+    }
 }
