@@ -1,43 +1,50 @@
+use mathlib.Core.Path.{_≡_, ap, _∙_}
+use lib.IntN.{pos}
+use mir.Syntax.{w32}
+use mir.Val.{toZ, ofZ}
+use Rattle.whole.specs.Within.{back, word-back}
+use Rattle.sheet.specs.Sheet.{headerBytes, totalFor}
 use borrow.Author.Needs.{needs}
 use Rattle.sheet.proofs.record.put_header.Statement.{statement}
 use Rattle.sheet.proofs.record.put_header.Tie as tie
-use Rattle.sheet.proofs.record.put_header.Reads as reads
-use Rattle.sheet.proofs.record.put_header.Lts as lts
-use Rattle.sheet.proofs.bytes.put_words.Reads as put-words-reads
-use Rattle.sheet.proofs.record.total_for.Reads as total-for-reads
-use Rattle.words.proofs.number.Reads as number-reads
 
--- src/record.rt:60:20
+count-is : (c : tie.After-number) → toZ w32 (ofZ w32 (c .number .result)) ≡ pos (c .before .before .args .n)
+count-is c = word-back (c .number .result) (c .number .ok) ∙ c .number .ensures
+
+offset-is : (c : tie.After-number2) → toZ w32 (ofZ w32 (c .number2 .result)) ≡ pos headerBytes
+offset-is c = word-back (c .number2 .result) (c .number2 .ok) ∙ c .number2 .ensures
+
+total-is : (c : tie.After-number3) → toZ w32 (ofZ w32 (c .number3 .result)) ≡ pos (totalFor (c .before .before .before .before .before .args .n))
+total-is c = word-back (c .number3 .result) (c .number3 .ok) ∙ c .number3 .ensures ∙ ap pos (c .before .total-for .ensures)
+
 number-requires : tie.Need-number-requires
 number-requires c κs = search needs
 
--- src/record.rt:60:31
 number-requires-2 : tie.Need-number-requires-2
 number-requires-2 c κs = search needs
 
--- src/record.rt:60:61
 total-for-requires : tie.Need-total-for-requires
 total-for-requires c κs = search needs
 
--- src/record.rt:60:54
 number-requires-3 : tie.Need-number-requires-3
 number-requires-3 c κs = search needs
 
--- src/record.rt:61:25
 slice-aggregate-put-words : tie.Need-slice-aggregate-put-words
 slice-aggregate-put-words c = search needs
 
--- src/record.rt:61:5
 put-words-requires : tie.Need-put-words-requires
 put-words-requires c κs = search needs
 
--- src/record.rt:56:1
 same-length : tie.Need-same-length
 same-length c = search needs
 
--- src/record.rt:56:1
 returns : tie.Need-returns
-returns c = ?
+returns c =
+    let n = count-is (c .before .before .before .before .before .before .before .before) in
+    let offset = offset-is (c .before .before .before .before .before .before .before) in
+    let total = total-is (c .before .before .before .before .before) in
+    let clock = back (c .before .before .before .before .before .before .before .before .before .before .fits .clock) in
+    simp (n, offset, clock, total) at (c .before .before .put-words .ensures)
 
 pub put-header-spec : {M : Type 1} → statement M
 put-header-spec =

@@ -1,30 +1,47 @@
+use mathlib.Core.Path.{_≡_}
+use mir.Syntax.{w32}
+use mir.Val.{toZ, ofZ}
+use Rattle.whole.specs.Within.{back}
 use borrow.Author.Needs.{needs}
 use Rattle.sheet.proofs.record.put_record.Statement.{statement}
 use Rattle.sheet.proofs.record.put_record.Tie as tie
-use Rattle.sheet.proofs.record.put_record.Reads as reads
-use Rattle.sheet.proofs.record.put_record.Lts as lts
-use Rattle.sheet.proofs.bytes.put_words.Reads as put-words-reads
-use Rattle.sheet.proofs.record.total_for.Reads as total-for-reads
 
--- src/record.rt:70:22
+module _ (s : tie.Start) where
+  r-id : toZ w32 (ofZ w32 (s .args .c .id)) ≡ s .args .c .id
+  r-id = back (record { sfits = s .good .1 .1 .0 .1 .1 .0 .1 })
+
+  r-x : toZ w32 (ofZ w32 (s .args .c .x)) ≡ s .args .c .x
+  r-x = back (record { sfits = s .good .1 .1 .0 .1 .1 .1 .0 .1 })
+
+  r-vx : toZ w32 (ofZ w32 (s .args .c .vx)) ≡ s .args .c .vx
+  r-vx = back (record { sfits = s .good .1 .1 .0 .1 .1 .1 .1 .0 .1 })
+
+  r-y : toZ w32 (ofZ w32 (s .args .c .y)) ≡ s .args .c .y
+  r-y = back (record { sfits = s .good .1 .1 .0 .1 .1 .1 .1 .1 .0 .1 })
+
+  r-vy : toZ w32 (ofZ w32 (s .args .c .vy)) ≡ s .args .c .vy
+  r-vy = back (record { sfits = s .good .1 .1 .0 .1 .1 .1 .1 .1 .1 .0 .1 })
+
+  r-expiry : toZ w32 (ofZ w32 (s .args .c .expiry .at)) ≡ s .args .c .expiry .at
+  r-expiry = back (record { sfits = s .good .1 .1 .0 .1 .1 .1 .1 .1 .1 .1 .0 .1 .1 .0 .1 })
+
+ruleset reads = (r-id, r-x, r-vx, r-y, r-vy, r-expiry)
+
 total-for-requires : tie.Need-total-for-requires
 total-for-requires c κs = search needs
 
--- src/record.rt:70:36
 slice-aggregate-put-words : tie.Need-slice-aggregate-put-words
 slice-aggregate-put-words c = search needs
 
--- src/record.rt:70:5
 put-words-requires : tie.Need-put-words-requires
 put-words-requires c κs = search needs
 
--- src/record.rt:65:1
 same-length : tie.Need-same-length
 same-length c = search needs
 
--- src/record.rt:65:1
 returns : tie.Need-returns
-returns c = ?
+returns c =
+    rw (c .before .before .before .before .total-for .ensures) at (simp reads at (c .before .before .put-words .ensures))
 
 pub put-record-spec : {M : Type 1} → statement M
 put-record-spec =
