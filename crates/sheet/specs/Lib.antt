@@ -1,7 +1,9 @@
 pub mod Bytes
 pub mod BytesLaws
 pub mod Complement
+pub mod HeaderLaws
 pub mod PutWords
+pub mod Records
 pub mod Sheet
 pub mod SheetLaws
 pub mod WellFormed

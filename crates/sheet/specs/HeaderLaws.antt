@@ -1,0 +1,49 @@
+-- Laws of the header's tests, and one for each way through the test of a whole sheet.
+use mathlib.Core.Path.{_≡_, refl, sym, ap, _∙_, subst}
+use mathlib.Core.Logic.{inl, inr}
+use mathlib.Core.List.{List}
+use Prim.Native.Nat.{ℕ, _≤_}
+use native.Mathlib.Omega.{arith}
+use borrow.Author.Tests.{eq-eqb}
+use lib.Dec.{T, eqb, leb, eqb→eq, leb→le, le→leb}
+use lib.IntN.{ℤ, pos}
+use lib.Signed.{_≤ℤ_, _<ℤ_, leZ-yes, clashℤ}
+use Rattle.whole.specs.Tells.{Tells}
+use Rattle.words.specs.Words.{natOf}
+use Rattle.words.specs.WordLaws.{natOf-pos, pos-natOf}
+use Rattle.track.specs.Refusals.{not-zero}
+use Rattle.track.specs.declared.refusal.Refusal.the-variants.{BadHeader, BadRecord}
+use Rattle.sheet.specs.Sheet.{clockOf, countOf}
+use Rattle.sheet.specs.WellFormed.{IsCountTo, HeaderSound, RecordsSound, Judges}
+use Rattle.sheet.specs.declared.judge.Judged.the-variants.{WellFormed, Refused}
+
+-- ---- a word as a number
+pub no-number : {z : ℤ} {n : ℕ} → z <ℤ pos 0 → z ≡ pos n → ⊥
+no-number {n} h e = clashℤ (rw e at h) (leZ-yes (le→leb 0 n (omega arith)))
+
+module _ (z : ℤ) (m : ℕ) (from : pos 0 ≤ℤ z) (is : m ≡ natOf z) where
+  pub number-tells : (n : ℕ) → Tells (eqb m n) (z ≡ pos n)
+  number-tells n = record {
+    sure = λ t. sym (pos-natOf z from) ∙ ap pos (sym is ∙ eqb→eq m n t);
+    seen = λ e. subst T (sym (eq-eqb m n (is ∙ ap natOf e ∙ natOf-pos n))) tt;
+  }
+
+  pub count-tells : (limit : ℕ) → Tells (leb m limit) (IsCountTo limit z)
+  count-tells limit = record {
+    sure = λ t. record { from = from; to = rw (← pos-natOf z from, ← is) (leZ-yes t) };
+    seen = λ c. rw is (below c .le);
+  }
+    where
+      below : IsCountTo limit z → pos (natOf z) ≤ℤ pos limit
+      below c = rw (pos-natOf z from) (c .to)
+
+-- ---- the ways through the test of a sheet
+module _ {limit : ℕ} {bytes : List ℕ} where
+  pub bad-header : (HeaderSound limit bytes → ⊥) → Judges limit bytes (Refused BadHeader)
+  bad-header n = record { refusal = inl (n, refl); count = not-zero 10; clock = not-zero 10 }
+
+  pub bad-record : HeaderSound limit bytes → (RecordsSound bytes → ⊥) → Judges limit bytes (Refused BadRecord)
+  bad-record h n = record { refusal = inr (λ f. f h, inl (n, refl)); count = not-zero 11; clock = not-zero 11 }
+
+  pub well-formed : {n : ℕ} {clock : ℤ} → HeaderSound limit bytes → RecordsSound bytes → n ≡ countOf bytes → clock ≡ clockOf bytes → Judges limit bytes (WellFormed n clock)
+  well-formed h r e f = record { refusal = inr (λ g. g h, inr (λ g. g r, refl)); count = λ z. e; clock = λ z. f }
