@@ -40,10 +40,10 @@ module _ (z : ℤ) (m : ℕ) (from : pos 0 ≤ℤ z) (is : m ≡ natOf z) where
 -- ---- the ways through the test of a sheet
 module _ {limit : ℕ} {bytes : List ℕ} where
   pub bad-header : (HeaderSound limit bytes → ⊥) → Judges limit bytes (Refused BadHeader)
-  bad-header n = record { refusal = inl (n, refl); count = not-zero 10; clock = not-zero 10 }
+  bad-header n = record { refusal = inl (n, refl); sound = not-zero 10; count = not-zero 10; clock = not-zero 10 }
 
   pub bad-record : HeaderSound limit bytes → (RecordsSound bytes → ⊥) → Judges limit bytes (Refused BadRecord)
-  bad-record h n = record { refusal = inr (λ f. f h, inl (n, refl)); count = not-zero 11; clock = not-zero 11 }
+  bad-record h n = record { refusal = inr (λ f. f h, inl (n, refl)); sound = not-zero 11; count = not-zero 11; clock = not-zero 11 }
 
   pub well-formed : {n : ℕ} {clock : ℤ} → HeaderSound limit bytes → RecordsSound bytes → n ≡ countOf bytes → clock ≡ clockOf bytes → Judges limit bytes (WellFormed n clock)
-  well-formed h r e f = record { refusal = inr (λ g. g h, inr (λ g. g r, refl)); count = λ z. e; clock = λ z. f }
+  well-formed h r e f = record { refusal = inr (λ g. g h, inr (λ g. g r, refl)); sound = λ z. record { header = h; records = r }; count = λ z. e; clock = λ z. f }

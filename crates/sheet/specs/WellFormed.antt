@@ -65,8 +65,9 @@ abbrev pub judgedClock : Judged → ℤ
 judgedClock (WellFormed n clock) = clock
 judgedClock (Refused why) = pos 0
 
--- what is found of bytes: the first refusal, or the sheet's count and clock
+-- what is found of bytes: the first refusal, or a sheet that is well formed, with its count and clock
 pub record Judges (limit : ℕ) (bytes : List ℕ) (r : Judged) : Type 0 where
   pub refusal : First (sheetReasons limit bytes) (judgedNumber r)
+  pub sound : judgedNumber r ≡ 0 → SheetSound limit bytes
   pub count : judgedNumber r ≡ 0 → judgedCount r ≡ countOf bytes
   pub clock : judgedNumber r ≡ 0 → judgedClock r ≡ clockOf bytes
