@@ -1,15 +1,15 @@
 -- Laws of words as bytes: there and back, and words of a part of a list.
-use mathlib.Core.Path.{_≡_, refl, sym, ap, _∙_}
+use mathlib.Core.Path.{_≡_, refl, _∙_}
 use mathlib.Core.List.{List, [], _∷_, _++_}
-use Prim.Native.Nat.{ℕ, suc, _+_, _*_, _/_, _%_, _^_, _≤_, _<_}
+use Prim.Native.Nat.{ℕ, suc, _+_, _*_, _/_, _%_, _≤_, _<_}
 use native.Mathlib.Omega.{arith}
 use native.Mathlib.Nat.{add-assoc}
 use native.Mathlib.Numerals.{add-one, add-two, add-three}
 use lib.IntN.{ℤ, pos}
-use lib.ListN.{length, getD, set, List·getD-append, List·getD-eq-default}
+use lib.ListN.{length, set, List·getD-append, List·getD-eq-default}
 use lib.Seq.{drop-cons, getD-append-add}
 use mir.Syntax.{w32}
-use mir.Val.{Fits, SFits, toZ, ofZ}
+use mir.Val.{SFits, toZ, ofZ}
 use mir.ValLaws as ValLaws
 use Rattle.whole.specs.Within.{back}
 use Rattle.words.specs.Parts.{part, put}

@@ -2,6 +2,7 @@ pub mod Bytes
 pub mod BytesLaws
 pub mod Complement
 pub mod HeaderLaws
+pub mod PutSheet
 pub mod PutWords
 pub mod Records
 pub mod Sheet

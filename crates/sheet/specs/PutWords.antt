@@ -1,7 +1,7 @@
 -- The loop that writes words one after the other: what holds after each turn.
 use mathlib.Core.Path.{_≡_, refl, sym, ap, _∙_}
-use mathlib.Core.List.{List, [], _∷_, _++_, append-assoc}
-use Prim.Native.Nat.{ℕ, suc, _+_, _*_, _≤_, _<_}
+use mathlib.Core.List.{List, [], _∷_, _++_, append-assoc, append-nil}
+use Prim.Native.Nat.{ℕ, _+_, _*_, _≤_, _<_}
 use native.Mathlib.Numerals.{add-one}
 use native.Mathlib.Omega.{arith}
 use lib.IntN.{ℤ, pos}
@@ -17,10 +17,6 @@ use Rattle.sheet.specs.SheetLaws.{length-bytesOfAll}
 all-append : (words : List ℤ) (z : ℤ) → bytesOfAll (words ++ (z ∷ [])) ≡ bytesOfAll words ++ bytesOf z
 unfolding bytesOfAll
 all-append [] z = append-nil (bytesOf z)
-  where
-    append-nil : (l : List ℕ) → l ++ [] ≡ l
-    append-nil [] = refl
-    append-nil (x ∷ l) = ap {B = List ℕ} (λ r. x ∷ r) (append-nil l)
 all-append (y ∷ words) z = rw (all-append words z) (sym (append-assoc (bytesOf y) (bytesOfAll words) (bytesOf z)))
 
 -- the first j words are written to w from `at` on, which made it t

@@ -1,26 +1,26 @@
 -- The test of the records one by one: what each is tried for, and what holds after each turn of the loop.
-use mathlib.Core.Path.{_≡_, refl, sym, ap, _∙_, subst}
-use mathlib.Core.Logic.{_⊎_, inl, inr, ⊎-elim, _↔_}
+use mathlib.Core.Path.{_≡_, refl}
+use mathlib.Core.Logic.{_⊎_, ⊎-elim, _↔_}
 use mathlib.Core.Bool.{true, false}
 use mathlib.Core.List.{List, [], _∷_, map, List·Memᴰ·head, List·Memᴰ·tail, List·Memᴰ·not-nil, List·Memᴰ·cases-cons}
-use Prim.Native.Nat.{ℕ, zero, suc, _+_, _-_, _≤_, _<_}
+use Prim.Native.Nat.{ℕ, suc, _+_, _-_, _≤_, _<_}
 use native.Mathlib.Numerals.{add-one}
 use native.Mathlib.Omega.{arith}
 use lib.IntN.{ℤ, pos}
 use lib.Signed.{_≤ℤ_, _<ℤ_}
 use Rattle.whole.specs.Difference.{each, difs}
 use Rattle.whole.specs.Lists.{_∈_}
-use Rattle.whole.specs.Rising.{Rising, rising-none, rising-one, rising-more, rising-tail}
+use Rattle.whole.specs.Rising.{Rising, rising-one, rising-more, rising-tail}
 use Rattle.whole.specs.Tells.{Tells, tells-true, tells-false}
 use Rattle.track.specs.Small.{CellInRange}
 use Rattle.track.specs.declared.cell.Cell.{Cell}
 use Rattle.sheet.specs.Sheet.{clockOf, countOf, cellAt, cellsFrom, cellsOf}
-use Rattle.sheet.specs.WellFormed.{identifier, CellsSound, RecordsSound}
+use Rattle.sheet.specs.WellFormed.{identifier, InLife, CellsSound, RecordsSound}
 
 -- a cell may follow one whose identifier is `last`; 0 where none goes before
 pub record Follows (clock last : ℤ) (c : Cell) : Type 0 where
   pub in-range : CellInRange c
-  pub in-life : clock ≤ℤ c .expiry .at
+  pub in-life : InLife clock c
   pub after : last <ℤ c .id
 
 -- each cell may follow the one before it
@@ -50,11 +50,11 @@ module _ {clock : ℤ} where
   each-in-range none-left d m = absurd (List·Memᴰ·not-nil m)
   each-in-range (one-more {c} f rest) d m = ⊎-elim (λ (e : d ≡ c). rw e (f .in-range)) (λ n. each-in-range rest d n) (List·Memᴰ·cases-cons m)
 
-  each-in-life : {last : ℤ} {cells : List Cell} → Following clock last cells → (d : Cell) → d ∈ cells → clock ≤ℤ d .expiry .at
+  each-in-life : {last : ℤ} {cells : List Cell} → Following clock last cells → (d : Cell) → d ∈ cells → InLife clock d
   each-in-life none-left d m = absurd (List·Memᴰ·not-nil m)
   each-in-life (one-more {c} f rest) d m = ⊎-elim (λ (e : d ≡ c). rw e (f .in-life)) (λ n. each-in-life rest d n) (List·Memᴰ·cases-cons m)
 
-  cells-follow : (last : ℤ) (cells : List Cell) → ((c : Cell) → c ∈ cells → CellInRange c) → ((c : Cell) → c ∈ cells → clock ≤ℤ c .expiry .at)
+  cells-follow : (last : ℤ) (cells : List Cell) → ((c : Cell) → c ∈ cells → CellInRange c) → ((c : Cell) → c ∈ cells → InLife clock c)
       → Rising _<ℤ_ (last ∷ map identifier cells) → Following clock last cells
   cells-follow last [] range life up = none-left
   cells-follow last (c ∷ cells) range life (rising-more r up) =

@@ -5,7 +5,7 @@ use Prim.Native.Nat.{ℕ, zero, suc, _+_, _*_, _/_, _≤_, _<_}
 use native.Mathlib.Omega.{arith}
 use native.Mathlib.Nat.{add-assoc, add-zero}
 use lib.IntN.{ℤ, pos, natAbs}
-use lib.ListN.{length, getD, length-append, List·getD-append}
+use lib.ListN.{length, getD, length-append}
 use lib.Seq.{take-all}
 use lib.Dec.{le→leb}
 use lib.Signed.{leZ-yes}
@@ -14,16 +14,16 @@ use mir.Val.{SFits}
 use Rattle.whole.specs.Lists.{_∈_}
 use Rattle.whole.specs.Order.{≤ℤ-trans}
 use Rattle.whole.specs.Within.{Within, fits, from-zero}
-use Rattle.words.specs.Parts.{part, put}
+use Rattle.words.specs.Parts.{part}
 use Rattle.words.specs.PartLaws.{part-add}
 use Rattle.words.specs.Words.{natOf}
 use Rattle.words.specs.WordLaws.{pos-natOf}
 use Rattle.track.specs.Numbers.{IsMinute, IsIdentifier, minute-in}
 use Rattle.track.specs.Small.{CellInRange}
 use Rattle.track.specs.declared.cell.Cell.{Cell}
-use Rattle.sheet.specs.Bytes.{byteAt, AreBytes, wordBytes, unsignedAt, bytesOf, wordAt}
+use Rattle.sheet.specs.Bytes.{AreBytes, wordBytes, bytesOf, wordAt}
 use Rattle.sheet.specs.BytesLaws.{length-bytesOf, bytes-of-word, word-of-bytes, word-front, word-behind, word-past}
-use Rattle.sheet.specs.Sheet.{headerBytes, recordBytes, recordStart, totalFor, bytesOfAll, headerNumbers, cellNumbers, headerOf, recordOf, recordsOf, sheetOf, countWord, clockOf, offsetWord, totalWord, countOf, cellFrom, cellAt, cellsFrom, cellsOf}
+use Rattle.sheet.specs.Sheet.{headerBytes, recordBytes, recordStart, totalFor, bytesOfAll, headerNumbers, cellNumbers, headerOf, recordOf, recordsOf, sheetOf, countWord, clockOf, countOf, cellFrom, cellAt, cellsFrom, cellsOf}
 use Rattle.sheet.specs.WellFormed.{HeaderSound, CellsSound, SheetSound}
 
 -- ---- lengths

@@ -31,11 +31,14 @@ pub record HeaderSound (limit : ℕ) (bytes : List ℕ) : Type 0 where
 abbrev pub identifier : Cell → ℤ
 identifier c = c .id
 
+-- a cell's expiry is not before the clock
+abbrev pub InLife : ℤ → Cell → Type 0
+InLife clock c = clock ≤ℤ c .expiry .at
+
 -- cells that may stand on a sheet with this clock
 pub record CellsSound (clock : ℤ) (cells : List Cell) : Type 0 where
   pub in-range : (c : Cell) → c ∈ cells → CellInRange c
-  -- none expires before the clock
-  pub in-life : (c : Cell) → c ∈ cells → clock ≤ℤ c .expiry .at
+  pub in-life : (c : Cell) → c ∈ cells → InLife clock c
   pub rising : Rising _<ℤ_ (map identifier cells)
 
 abbrev pub RecordsSound : List ℕ → Type 0

@@ -1,9 +1,7 @@
-use mathlib.Core.Path.{_∙_}
 use mir.Syntax.{w32}
 use Rattle.whole.specs.Within.{read-at}
 use borrow.Author.Needs.{needs}
 use Prim.Native.Nat.{_-_}
-use native.Mathlib.Omega.{arith}
 use lib.ListN.{length}
 use Rattle.sheet.specs.PutWords.{WordsPut, none-put, word-put, all-put}
 use Rattle.sheet.proofs.bytes.put_words.Statement.{statement}
