@@ -1,5 +1,5 @@
 -- Laws of the header's tests, and one for each way through the test of a whole sheet.
-use mathlib.Core.Path.{_≡_, refl, sym, ap, _∙_, subst}
+use mathlib.Core.Path.{_≡_, refl, sym, ap, ap₂, _∙_, subst}
 use mathlib.Core.Logic.{inl, inr}
 use mathlib.Core.List.{List}
 use Prim.Native.Nat.{ℕ, _≤_}
@@ -11,10 +11,11 @@ use lib.Signed.{_≤ℤ_, _<ℤ_, leZ-yes, clashℤ}
 use Rattle.whole.specs.Tells.{Tells}
 use Rattle.words.specs.Words.{natOf}
 use Rattle.words.specs.WordLaws.{natOf-pos, pos-natOf}
-use Rattle.track.specs.Refusals.{not-zero}
+use Rattle.track.specs.Refusals.{not-zero, refused-not-zero, number-fixes, first-fixed}
 use Rattle.track.specs.declared.refusal.Refusal.the-variants.{BadHeader, BadRecord}
 use Rattle.sheet.specs.Sheet.{clockOf, countOf}
-use Rattle.sheet.specs.WellFormed.{IsCountTo, HeaderSound, RecordsSound, Judges}
+use Rattle.sheet.specs.WellFormed.{IsCountTo, HeaderSound, RecordsSound, sheetReasons, judgedNumber, judgedCount, judgedClock, Judges}
+use Rattle.sheet.specs.declared.judge.Judged.{Judged}
 use Rattle.sheet.specs.declared.judge.Judged.the-variants.{WellFormed, Refused}
 
 -- ---- a word as a number
@@ -47,3 +48,14 @@ module _ {limit : ℕ} {bytes : List ℕ} where
 
   pub well-formed : {n : ℕ} {clock : ℤ} → HeaderSound limit bytes → RecordsSound bytes → n ≡ countOf bytes → clock ≡ clockOf bytes → Judges limit bytes (WellFormed n clock)
   well-formed h r e f = record { refusal = inr (λ g. g h, inr (λ g. g r, refl)); sound = λ z. record { header = h; records = r }; count = λ z. e; clock = λ z. f }
+
+  -- what is found is fixed by the bytes
+  pub judged-fixed : (r s : Judged) → Judges limit bytes r → Judges limit bytes s → r ≡ s
+  judged-fixed r s g h = same r s (first-fixed (sheetReasons limit bytes) (judgedNumber r) (judgedNumber s) (g .refusal) (h .refusal)) (g .count) (h .count) (g .clock) (h .clock)
+    where
+      same : (r s : Judged) → judgedNumber r ≡ judgedNumber s → (judgedNumber r ≡ 0 → judgedCount r ≡ countOf bytes) → (judgedNumber s ≡ 0 → judgedCount s ≡ countOf bytes)
+          → (judgedNumber r ≡ 0 → judgedClock r ≡ clockOf bytes) → (judgedNumber s ≡ 0 → judgedClock s ≡ clockOf bytes) → r ≡ s
+      same (WellFormed m a) (WellFormed n b) e i j k l = ap₂ WellFormed (i refl ∙ sym (j refl)) (k refl ∙ sym (l refl))
+      same (WellFormed m a) (Refused why) e i j k l = absurd (refused-not-zero why (sym e))
+      same (Refused why) (WellFormed n b) e i j k l = absurd (refused-not-zero why e)
+      same (Refused why) (Refused other) e i j k l = ap Refused (number-fixes why other e)
