@@ -12,13 +12,12 @@ use lib.Signed.{leZ-yes}
 use mir.Syntax.{w32}
 use mir.Val.{SFits}
 use Rattle.whole.specs.Lists.{_∈_}
-use Rattle.whole.specs.Order.{≤ℤ-trans}
-use Rattle.whole.specs.Within.{Within, fits, from-zero}
+use Rattle.whole.specs.Within.{fits}
 use Rattle.words.specs.Parts.{part}
 use Rattle.words.specs.PartLaws.{part-add}
 use Rattle.words.specs.Words.{natOf}
 use Rattle.words.specs.WordLaws.{pos-natOf}
-use Rattle.track.specs.Numbers.{IsMinute, IsIdentifier, minute-in}
+use Rattle.track.specs.Numbers.{IsMinute, minute-in, identifier-in}
 use Rattle.track.specs.Small.{CellInRange}
 use Rattle.track.specs.declared.cell.Cell.{Cell}
 use Rattle.sheet.specs.Bytes.{AreBytes, wordBytes, bytesOf, wordAt}
@@ -162,12 +161,9 @@ cells-read (c ∷ cells) before k long fit =
     next = simp length-append (omega (arith, long, length-recordOf c))
 
 -- ---- what is in range fits a word
-pub identifier-in : {id : ℤ} → IsIdentifier id → Within 2147483647 id
-identifier-in h = from-zero (≤ℤ-trans (leZ-yes tt) (h .from)) (h .to)
-
 cell-fits : {c : Cell} → CellInRange c → AllFit (cellNumbers c)
 cell-fits h = (
-  fits tt (from-zero (≤ℤ-trans (leZ-yes tt) (h .identifier .from)) (h .identifier .to)),
+  fits tt (identifier-in (h .identifier)),
   (fits tt (h .x-in), (fits tt (h .vx-in), (fits tt (h .y-in), (fits tt (h .vy-in), (fits tt (minute-in (h .expiry-in)), tt))))),
 )
 

@@ -15,17 +15,19 @@ use Rattle.sheet.specs.Sheet.{headerBytes, totalFor, countWord, offsetWo
 use Rattle.sheet.specs.declared.judge.Judged.{Judged}
 use Rattle.sheet.specs.declared.judge.Judged.the-variants.{WellFormed, Refused}
 
--- a count from 0 to the most cells
+-- a count from 0 to the limit
 pub record IsCountTo (limit : ℕ) (z : ℤ) : Type 0 where
   pub from : pos 0 ≤ℤ z
   pub to : z ≤ℤ pos limit
 
+-- what a header must have, or 11 is given
 pub record HeaderSound (limit : ℕ) (bytes : List ℕ) : Type 0 where
   pub whole-header : headerBytes ≤ length bytes
   pub count-in : IsCountTo limit (countWord bytes)
   pub offset-is : offsetWord bytes ≡ pos headerBytes
   pub clock-in : IsMinute (clockOf bytes)
   pub total-is : totalWord bytes ≡ pos (totalFor (countOf bytes))
+  -- the total is the length given
   pub total-given : totalWord bytes ≡ pos (length bytes)
 
 abbrev pub identifier : Cell → ℤ
@@ -35,7 +37,7 @@ identifier c = c .id
 abbrev pub InLife : ℤ → Cell → Type 0
 InLife clock c = clock ≤ℤ c .expiry .at
 
--- cells that may stand on a sheet with this clock
+-- cells that may stand on a sheet with this clock: what its records must be, or 12 is given
 pub record CellsSound (clock : ℤ) (cells : List Cell) : Type 0 where
   pub in-range : (c : Cell) → c ∈ cells → CellInRange c
   pub in-life : (c : Cell) → c ∈ cells → InLife clock c

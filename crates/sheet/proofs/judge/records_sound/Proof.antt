@@ -7,7 +7,7 @@ use mir.Val.{toZ, ofZ}
 use Rattle.whole.specs.Tells.{Tells, passed-not, failed-not}
 use Rattle.whole.specs.Within.{word-back, read32}
 use Rattle.sheet.specs.Sheet.{clockOf, countOf, cellAt}
-use Rattle.sheet.specs.SheetLaws.{identifier-in}
+use Rattle.track.specs.Numbers.{identifier-in}
 use Rattle.sheet.specs.Records.{Follows, Passed, none-passed, one-passed, one-failed, all-passed}
 use Rattle.sheet.proofs.judge.records_sound.Statement.{statement}
 use Rattle.sheet.proofs.judge.records_sound.Tie as tie
