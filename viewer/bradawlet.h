@@ -1,24 +1,26 @@
 /*
- * Bradawlet: does the straight track of a storm cell meet a window?
+ * Bradawlet: does the straight track of a storm cell meet a window, and are
+ * bytes a well-formed sheet of cells?
  *
  * Link with libviewer.a. It needs no other library, keeps no state, allocates
- * nothing and takes any numbers at all: what it cannot answer it refuses by
- * number.
+ * nothing and takes any numbers and any bytes at all: what it cannot answer it
+ * refuses by number.
  */
 #ifndef BRADAWLET_H
 #define BRADAWLET_H
 
+#include <stddef.h>
 #include <stdint.h>
 
 #ifdef __cplusplus
 extern "C" {
 #endif
 
-/* The answers of bradawlet_meets. */
+/* The answers of bradawlet_meets, and of bradawlet_sheet: 1, 11 and 12. */
 enum bradawlet_answer {
     /* The track does not meet the window. */
     BRADAWLET_NO = 0,
-    /* The track meets the window. */
+    /* The track meets the window; the sheet is well formed. */
     BRADAWLET_YES = 1,
     /* Refused: an argument is outside its range. */
     BRADAWLET_OUT_OF_RANGE = 4,
@@ -28,7 +30,11 @@ enum bradawlet_answer {
     BRADAWLET_EXPIRED_AT_REPORT = 6,
     /* Refused: the window ends before it starts, or a low edge is above its
        high edge. */
-    BRADAWLET_BACKWARD = 7
+    BRADAWLET_BACKWARD = 7,
+    /* Refused: the sheet's header is wrong. */
+    BRADAWLET_BAD_HEADER = 11,
+    /* Refused: a record of the sheet is wrong. */
+    BRADAWLET_BAD_RECORD = 12
 };
 
 /*
@@ -64,6 +70,33 @@ enum bradawlet_answer {
 int32_t bradawlet_meets(int32_t id, int32_t x, int32_t y, int32_t vx, int32_t vy,
                         int32_t minute, int32_t expiry, int32_t start, int32_t end,
                         int32_t xlow, int32_t xhigh, int32_t ylow, int32_t yhigh);
+
+/*
+ * Says whether bytes are a well-formed sheet.
+ *
+ * A sheet is made of little-endian words of 32 bits, two's complement. Its
+ * header has four:
+ *   count    how many cells there are              0 to 256
+ *   offset   where the cells start                 16
+ *   clock    the minute of the sheet               0 to 1440
+ *   total    how long the sheet is                 16 + 24 * count
+ * A record of six follows for each cell, by rising identifier:
+ *   id       its identifier                        1 to 2147483647
+ *   x, vx    where it was at minute 0, and how
+ *            it moves                              -837280 to 837280, -512 to 512
+ *   y, vy    the same for y
+ *   expiry   the last minute for which its track
+ *            can be trusted                        clock to 1440
+ *
+ * bytes points to length bytes, and is not null, not even where length is 0.
+ *
+ * The answer is BRADAWLET_BAD_HEADER exactly when there are fewer than 16 bytes,
+ * a number of the header is not as above, or total is not length. Else it is
+ * BRADAWLET_BAD_RECORD exactly when a number of a record is not as above or an
+ * identifier is not greater than the one before. Else it is BRADAWLET_YES: it is
+ * never 0.
+ */
+int32_t bradawlet_sheet(const uint8_t *bytes, size_t length);
 
 #ifdef __cplusplus
 }

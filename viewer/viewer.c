@@ -1,11 +1,15 @@
 /*
  * Asks the viewer's meeting call about tracks whose answers are known, and for
- * every refusal. Prints a line for each check that fails, and last the counts.
+ * every refusal; asks its sheet test about sheets that are whole, cut short,
+ * padded and damaged. Prints a line for each check that fails, and last the
+ * counts.
  */
 #include "bradawlet.h"
 
+#include <stdbool.h>
 #include <stddef.h>
 #include <stdio.h>
+#include <stdlib.h>
 
 #define LENGTH(array) (sizeof(array) / sizeof((array)[0]))
 
@@ -111,6 +115,85 @@ static const struct track tracks[] = {
     {"7: ylow one above yhigh", {{1, 0, 0, 0, 0, 0, 40, 12, 12, 0, 0, 1, 0}}, 7},
 };
 
+enum header_word { COUNT, OFFSET, CLOCK, TOTAL, HEADER_WORDS };
+
+enum record_word { R_ID, R_X, R_VX, R_Y, R_VY, R_EXPIRY, RECORD_WORDS };
+
+enum { MOST_CELLS = 256, WORD_BYTES = 4, SHEET_CLOCK = 100 };
+
+/* Room for one cell more than a sheet may have. */
+struct sheet {
+    int32_t word[HEADER_WORDS + RECORD_WORDS * (MOST_CELLS + 1)];
+};
+
+/* A word of a sheet of three cells that is changed; record -1 is the header. */
+struct change {
+    const char *name;
+    int record, field;
+    int32_t value;
+    int32_t answer;
+};
+
+static const struct change changes[] = {
+    {"count -1", -1, COUNT, -1, 11},
+    {"count one too small", -1, COUNT, 2, 11},
+    {"count one too great", -1, COUNT, 4, 11},
+    {"count 257", -1, COUNT, 257, 11},
+    {"count at INT32_MIN", -1, COUNT, INT32_MIN, 11},
+    {"count at INT32_MAX", -1, COUNT, INT32_MAX, 11},
+    {"offset 0", -1, OFFSET, 0, 11},
+    {"offset 15", -1, OFFSET, 15, 11},
+    {"offset 17", -1, OFFSET, 17, 11},
+    {"offset -16", -1, OFFSET, -16, 11},
+    {"offset of the second record", -1, OFFSET, 40, 11},
+    {"clock -1", -1, CLOCK, -1, 11},
+    {"clock 0", -1, CLOCK, 0, 1},
+    {"clock at the first expiry", -1, CLOCK, SHEET_CLOCK, 1},
+    {"clock past the first expiry", -1, CLOCK, SHEET_CLOCK + 1, 12},
+    {"clock 1440", -1, CLOCK, 1440, 12},
+    {"clock 1441", -1, CLOCK, 1441, 11},
+    {"clock at INT32_MIN", -1, CLOCK, INT32_MIN, 11},
+    {"total 0", -1, TOTAL, 0, 11},
+    {"total -88", -1, TOTAL, -88, 11},
+    {"total one too small", -1, TOTAL, 87, 11},
+    {"total one too great", -1, TOTAL, 89, 11},
+    {"total a record too small", -1, TOTAL, 64, 11},
+    {"total a record too great", -1, TOTAL, 112, 11},
+
+    {"first identifier 1", 0, R_ID, 1, 1},
+    {"first identifier 0", 0, R_ID, 0, 12},
+    {"first identifier -1", 0, R_ID, -1, 12},
+    {"first identifier INT32_MIN", 0, R_ID, INT32_MIN, 12},
+    {"first identifier just below the second", 0, R_ID, 19, 1},
+    {"first identifier that of the second", 0, R_ID, 20, 12},
+    {"second identifier that of the third", 1, R_ID, 30, 12},
+    {"third identifier that of the second", 2, R_ID, 20, 12},
+    {"third identifier below the second", 2, R_ID, 19, 12},
+    {"third identifier just above the second", 2, R_ID, 21, 1},
+    {"third identifier the greatest", 2, R_ID, INT32_MAX, 1},
+    {"x at its least", 0, R_X, -837280, 1},
+    {"x one below its least", 0, R_X, -837281, 12},
+    {"x at its greatest", 1, R_X, 837280, 1},
+    {"x one above its greatest", 1, R_X, 837281, 12},
+    {"vx at its least", 1, R_VX, -512, 1},
+    {"vx one below its least", 1, R_VX, -513, 12},
+    {"vx at its greatest", 2, R_VX, 512, 1},
+    {"vx one above its greatest", 2, R_VX, 513, 12},
+    {"y at its least", 2, R_Y, -837280, 1},
+    {"y one below its least", 2, R_Y, -837281, 12},
+    {"y at its greatest", 0, R_Y, 837280, 1},
+    {"y one above its greatest", 0, R_Y, 837281, 12},
+    {"vy at its least", 0, R_VY, -512, 1},
+    {"vy one below its least", 0, R_VY, -513, 12},
+    {"vy at its greatest", 1, R_VY, 512, 1},
+    {"vy one above its greatest", 1, R_VY, 513, 12},
+    {"expiry at the clock", 2, R_EXPIRY, SHEET_CLOCK, 1},
+    {"expiry before the clock", 2, R_EXPIRY, SHEET_CLOCK - 1, 12},
+    {"expiry 1440", 1, R_EXPIRY, 1440, 1},
+    {"expiry 1441", 1, R_EXPIRY, 1441, 12},
+    {"expiry at INT32_MIN", 0, R_EXPIRY, INT32_MIN, 12},
+};
+
 static int32_t ask(const struct call *call)
 {
     const int32_t *v = call->value;
@@ -210,6 +293,164 @@ static void check_order(void)
     }
 }
 
+static size_t total_of(int32_t cells)
+{
+    return 16 + 24 * (size_t)cells;
+}
+
+/* Cells 10, 20, .. whose numbers have both signs; none expires before the clock. */
+static void make_sheet(struct sheet *sheet, int32_t cells)
+{
+    *sheet = (struct sheet){{cells, 16, SHEET_CLOCK, (int32_t)total_of(cells)}};
+    for (int32_t k = 0; k < cells; k++) {
+        int32_t sign = k % 2 == 0 ? 1 : -1;
+        int32_t *record = sheet->word + HEADER_WORDS + RECORD_WORDS * k;
+        record[R_ID] = 10 * (k + 1);
+        record[R_X] = sign * 3271 * k;
+        record[R_VX] = -sign * k;
+        record[R_Y] = -sign * 65536;
+        record[R_VY] = sign * 512;
+        record[R_EXPIRY] = SHEET_CLOCK + k;
+    }
+}
+
+/* The first bytes of a sheet, as many as length, in a block of just that size. */
+static uint8_t *bytes_of(const struct sheet *sheet, size_t length)
+{
+    uint8_t *bytes = malloc(length == 0 ? 1 : length);
+    if (bytes == NULL)
+        abort();
+    for (size_t i = 0; i < length; i++)
+        bytes[i] = (uint8_t)((uint32_t)sheet->word[i / WORD_BYTES] >> (8 * (i % WORD_BYTES)));
+    return bytes;
+}
+
+static void check_bytes(const char *name, const char *detail, const uint8_t *bytes, size_t length,
+                        int32_t expected)
+{
+    int32_t answer = bradawlet_sheet(bytes, length);
+    if (answer == expected) {
+        passed++;
+        return;
+    }
+    failed++;
+    printf("FAILED %s%s: expected %d, was %d, for %zu bytes\n", name, detail, (int)expected,
+           (int)answer, length);
+}
+
+static void check_sheet(const char *name, const char *detail, const struct sheet *sheet,
+                        size_t length, int32_t expected)
+{
+    uint8_t *bytes = bytes_of(sheet, length);
+    check_bytes(name, detail, bytes, length, expected);
+    free(bytes);
+}
+
+/* Every length from nothing to past the total: only the total itself will do. */
+static void check_lengths(int32_t cells)
+{
+    struct sheet sheet;
+    make_sheet(&sheet, cells);
+    for (size_t length = 0; length <= total_of(cells) + 30; length++)
+        check_sheet("a sheet", " cut short or padded", &sheet, length,
+                    length == total_of(cells) ? BRADAWLET_YES : BRADAWLET_BAD_HEADER);
+}
+
+static void check_change(const struct change *change)
+{
+    struct sheet sheet;
+    make_sheet(&sheet, 3);
+    int32_t *word = sheet.word;
+    if (change->record >= 0)
+        word += HEADER_WORDS + RECORD_WORDS * change->record;
+    word[change->field] = change->value;
+    check_sheet(change->name, "", &sheet, total_of(3), change->answer);
+    if (change->answer != BRADAWLET_BAD_RECORD)
+        return;
+    sheet.word[OFFSET]++;
+    check_sheet(change->name, " and a wrong header", &sheet, total_of(3), BRADAWLET_BAD_HEADER);
+}
+
+static void check_count(int32_t cells, int32_t expected)
+{
+    struct sheet sheet;
+    make_sheet(&sheet, cells);
+    check_sheet("a sheet", " of so many cells", &sheet, total_of(cells), expected);
+}
+
+/* What stands in a sheet, read in another way than the library does: byte by byte from the top. */
+static int64_t word_at(const uint8_t *bytes, size_t at)
+{
+    int64_t word = bytes[at + 3] < 128 ? bytes[at + 3] : bytes[at + 3] - 256;
+    for (size_t i = 3; i > 0; i--)
+        word = word * 256 + bytes[at + i - 1];
+    return word;
+}
+
+static bool between(int64_t least, int64_t value, int64_t greatest)
+{
+    return least <= value && value <= greatest;
+}
+
+static int32_t plain_answer(const uint8_t *bytes, size_t length)
+{
+    if (length < 16)
+        return BRADAWLET_BAD_HEADER;
+    int64_t count = word_at(bytes, 0), clock = word_at(bytes, 8);
+    if (!between(0, count, MOST_CELLS) || word_at(bytes, 4) != 16 || !between(0, clock, 1440)
+        || word_at(bytes, 12) != 16 + 24 * count || word_at(bytes, 12) != (int64_t)length)
+        return BRADAWLET_BAD_HEADER;
+    int64_t least = 1;
+    for (size_t at = 16; at < length; at += 24) {
+        if (!between(least, word_at(bytes, at), INT32_MAX)
+            || !between(-837280, word_at(bytes, at + 4), 837280)
+            || !between(-512, word_at(bytes, at + 8), 512)
+            || !between(-837280, word_at(bytes, at + 12), 837280)
+            || !between(-512, word_at(bytes, at + 16), 512)
+            || !between(clock, word_at(bytes, at + 20), 1440))
+            return BRADAWLET_BAD_RECORD;
+        least = word_at(bytes, at) + 1;
+    }
+    return BRADAWLET_YES;
+}
+
+/* One byte takes every value; the block is left with the last of them. */
+static void check_byte(uint8_t *bytes, size_t length, size_t place)
+{
+    int32_t answer = 0, expected = 0;
+    for (int value = 0; value < 256 && answer == expected; value++) {
+        bytes[place] = (uint8_t)value;
+        answer = bradawlet_sheet(bytes, length);
+        expected = plain_answer(bytes, length);
+    }
+    check_bytes("a sheet", " with one byte changed", bytes, length, expected);
+}
+
+static void check_single_bytes(int32_t cells)
+{
+    struct sheet sheet;
+    make_sheet(&sheet, cells);
+    size_t length = total_of(cells);
+    for (size_t place = 0; place < length; place++) {
+        uint8_t *bytes = bytes_of(&sheet, length);
+        check_byte(bytes, length, place);
+        free(bytes);
+    }
+}
+
+static void check_sheets(void)
+{
+    for (int32_t cells = 0; cells <= 3; cells++) {
+        check_lengths(cells);
+        check_single_bytes(cells);
+    }
+    for (int32_t cells = 0; cells <= MOST_CELLS; cells++)
+        check_count(cells, BRADAWLET_YES);
+    check_count(MOST_CELLS + 1, BRADAWLET_BAD_HEADER);
+    for (size_t i = 0; i < LENGTH(changes); i++)
+        check_change(&changes[i]);
+}
+
 int main(void)
 {
     for (size_t i = 0; i < LENGTH(tracks); i++)
@@ -219,6 +460,7 @@ int main(void)
     check_all_arguments_at(" at INT32_MIN", INT32_MIN);
     check_all_arguments_at(" at INT32_MAX", INT32_MAX);
     check_order();
+    check_sheets();
     printf("%u passed, %u failed\n", passed, failed);
     return failed != 0;
 }

@@ -1,7 +1,8 @@
 -- The numbers of the trade: positions in units of 10 m, velocities in units a minute, minutes from 0 to 1,440.
 use Prim.Native.Nat.{ℕ}
 use lib.IntN.{ℤ, pos, _-ℤ_, _*ℤ_}
-use lib.Signed.{_≤ℤ_}
+use lib.Signed.{_≤ℤ_, leZ-yes}
+use Rattle.whole.specs.Order.{≤ℤ-trans}
 use Rattle.whole.specs.Within.{Within, widen, mul-in, sub-in, from-zero}
 
 pub record IsMinute (m : ℤ) : Type 0 where
@@ -32,6 +33,10 @@ minute-in h = from-zero (h .from) (h .to)
 
 pub kept-in : {x v t : ℤ} → IsPosition x → IsVelocity v → IsMinute t → IsKept (kept x v t)
 kept-in h k m = sub-in h (mul-in k (minute-in m))
+
+-- an identifier fits a word
+pub identifier-in : {id : ℤ} → IsIdentifier id → Within 2147483647 id
+identifier-in h = from-zero (≤ℤ-trans (leZ-yes tt) (h .from)) (h .to)
 
 -- a kept edge of an entry
 abbrev pub IsEdge : ℤ → Type 0

@@ -7,6 +7,7 @@ use Prim.Native.Nat.{ℕ, zero, suc}
 use native.Mathlib.Omega.{arith}
 use lib.Dec.{ltb}
 use lib.IntN.{ℤ, pos}
+use lib.ListN.{getD}
 use Rattle.track.specs.declared.refusal.Refusal.{Refusal}
 use Rattle.track.specs.declared.refusal.Refusal.the-variants.{NotSound, BadCapacity, ShortTable, OutOfRange, BeforeClock, ExpiresFirst, Backward, NotLive, Full, ShortList, BadHeader, BadRecord, ShortBytes}
 
@@ -46,6 +47,30 @@ refused-not-zero ShortList = not-zero 9
 refused-not-zero BadHeader = not-zero 10
 refused-not-zero BadRecord = not-zero 11
 refused-not-zero ShortBytes = not-zero 12
+
+-- a number has one refusal: place n of this list has that of number n
+abbrev listed : List Refusal
+listed =
+    NotSound ∷ NotSound ∷ BadCapacity ∷ ShortTable ∷ OutOfRange ∷ BeforeClock ∷ ExpiresFirst ∷
+    Backward ∷ NotLive ∷ Full ∷ ShortList ∷ BadHeader ∷ BadRecord ∷ ShortBytes ∷ []
+
+at-number : (r : Refusal) → getD listed (number r) NotSound ≡ r
+at-number NotSound = refl
+at-number BadCapacity = refl
+at-number ShortTable = refl
+at-number OutOfRange = refl
+at-number BeforeClock = refl
+at-number ExpiresFirst = refl
+at-number Backward = refl
+at-number NotLive = refl
+at-number Full = refl
+at-number ShortList = refl
+at-number BadHeader = refl
+at-number BadRecord = refl
+at-number ShortBytes = refl
+
+pub number-fixes : (r s : Refusal) → number r ≡ number s → r ≡ s
+number-fixes r s e = sym (at-number r) ∙ ap (λ (n : ℕ). getD listed n NotSound) e ∙ at-number s
 
 -- a number, and what it is given for
 infix 70 _when_

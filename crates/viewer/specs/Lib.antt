@@ -1,1 +1,3 @@
+pub mod Sheet
+pub mod SheetLaws
 pub mod Window

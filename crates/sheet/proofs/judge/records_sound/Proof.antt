@@ -1,0 +1,82 @@
+use borrow.Author.Needs.{needs}
+use mathlib.Core.Path.{_≡_, _∙_}
+use Prim.Native.Nat.{_-_, _<_}
+use native.Mathlib.Omega.{arith}
+use mir.Syntax.{w32}
+use mir.Val.{toZ, ofZ}
+use Rattle.whole.specs.Tells.{Tells, passed-not, failed-not}
+use Rattle.whole.specs.Within.{word-back, read32}
+use Rattle.sheet.specs.Sheet.{clockOf, countOf, cellAt}
+use Rattle.track.specs.Numbers.{identifier-in}
+use Rattle.sheet.specs.Records.{Follows, Passed, none-passed, one-passed, one-failed, all-passed}
+use Rattle.sheet.proofs.judge.records_sound.Statement.{statement}
+use Rattle.sheet.proofs.judge.records_sound.Tie as tie
+
+abbrev Inv-loop : tie.InvT-loop
+Inv-loop bytes n clock last₀ k₀ last k = Passed bytes (toZ w32 last) k
+
+abbrev μ-loop : tie.MeasureT-loop
+μ-loop bytes n clock last₀ k₀ last k = n - k
+
+low : (c : tie.In-loop Inv-loop μ-loop) → c .before .loop .k < countOf (c .before .before .before .before .before .args .bytes .now)
+low c = omega (arith, c .before .before .before .count-of .ensures .0)
+
+clock-is : (c : tie.After-read-word Inv-loop μ-loop) → toZ w32 (ofZ w32 (c .read-word .result)) ≡ clockOf (c .before .before .before .args .bytes .now)
+clock-is c = word-back (c .read-word .result) (c .read-word .ok) ∙ c .read-word .ensures
+
+told : (c : tie.After-follows Inv-loop μ-loop)
+    → let bytes = c .before .before .before .before .before .before .before .args .bytes .now in
+    let at = c .before .before .before .loop in
+    Tells (c .follows .result) (Follows (clockOf bytes) (toZ w32 (at .last)) (cellAt bytes (at .k)))
+told c = simp (clock-is (c .before .before .before .before), c .before .cell-at .ensures) at (c .follows .ensures)
+
+count-of-requires : tie.Need-count-of-requires Inv-loop μ-loop
+count-of-requires c κs = search needs
+
+read-word-requires : tie.Need-read-word-requires Inv-loop μ-loop
+read-word-requires c κs = search needs
+
+loop-holds : tie.Need-loop-holds Inv-loop μ-loop
+loop-holds c = none-passed
+
+cell-at-requires : tie.Need-cell-at-requires Inv-loop μ-loop
+cell-at-requires c κs = search needs
+
+follows-requires : tie.Need-follows-requires Inv-loop μ-loop
+follows-requires c κs = search needs
+
+returns : tie.Need-returns Inv-loop μ-loop
+returns c = one-failed (c .before .before .before .before .loop .inv) (low (c .before .before .before)) (failed-not (told (c .before)) (c .if1 .taken))
+
+add-k : tie.Need-add-k Inv-loop μ-loop
+add-k c = search needs
+
+loop-less : tie.Need-loop-less Inv-loop μ-loop
+loop-less c = search needs
+
+loop-again : tie.Need-loop-again Inv-loop μ-loop
+loop-again c =
+    let at = c .before .before .before .before .before .loop in
+    let follows = passed-not (told (c .before .before)) (c .before .if1 .left) in
+    let cell = c .before .before .before .cell-at .ensures in
+    rw (cell, read32 tt (identifier-in (follows .in-range .identifier))) (one-passed (at .inv) (low (c .before .before .before .before)) follows)
+
+returns-2 : tie.Need-returns-2 Inv-loop μ-loop
+returns-2 c = all-passed (c .before .loop .inv) (omega (arith, c .before .before .before .count-of .ensures .0))
+
+pub records-sound-spec : {M : Type 1} → statement M
+records-sound-spec =
+    tie.close
+    (tie.spec
+    Inv-loop
+    μ-loop
+    count-of-requires
+    read-word-requires
+    loop-holds
+    cell-at-requires
+    follows-requires
+    returns
+    add-k
+    loop-less
+    loop-again
+    returns-2)

@@ -1,0 +1,60 @@
+use mathlib.Core.Path.{_≡_, ap, _∙_}
+use lib.IntN.{pos}
+use mir.Syntax.{w32}
+use mir.Val.{toZ, ofZ}
+use Rattle.whole.specs.Within.{back, word-back}
+use Rattle.sheet.specs.Sheet.{headerBytes, totalFor}
+use borrow.Author.Needs.{needs}
+use Rattle.sheet.proofs.record.put_header.Statement.{statement}
+use Rattle.sheet.proofs.record.put_header.Tie as tie
+
+count-is : (c : tie.After-number) → toZ w32 (ofZ w32 (c .number .result)) ≡ pos (c .before .before .args .n)
+count-is c = word-back (c .number .result) (c .number .ok) ∙ c .number .ensures
+
+offset-is : (c : tie.After-number2) → toZ w32 (ofZ w32 (c .number2 .result)) ≡ pos headerBytes
+offset-is c = word-back (c .number2 .result) (c .number2 .ok) ∙ c .number2 .ensures
+
+total-is : (c : tie.After-number3) → toZ w32 (ofZ w32 (c .number3 .result)) ≡ pos (totalFor (c .before .before .before .before .before .args .n))
+total-is c = word-back (c .number3 .result) (c .number3 .ok) ∙ c .number3 .ensures ∙ ap pos (c .before .total-for .ensures)
+
+number-requires : tie.Need-number-requires
+number-requires c κs = search needs
+
+number-requires-2 : tie.Need-number-requires-2
+number-requires-2 c κs = search needs
+
+total-for-requires : tie.Need-total-for-requires
+total-for-requires c κs = search needs
+
+number-requires-3 : tie.Need-number-requires-3
+number-requires-3 c κs = search needs
+
+slice-aggregate-put-words : tie.Need-slice-aggregate-put-words
+slice-aggregate-put-words c = search needs
+
+put-words-requires : tie.Need-put-words-requires
+put-words-requires c κs = search needs
+
+same-length : tie.Need-same-length
+same-length c = search needs
+
+returns : tie.Need-returns
+returns c =
+    let n = count-is (c .before .before .before .before .before .before .before .before) in
+    let offset = offset-is (c .before .before .before .before .before .before .before) in
+    let total = total-is (c .before .before .before .before .before) in
+    let clock = back (c .before .before .before .before .before .before .before .before .before .before .fits .clock) in
+    simp (n, offset, clock, total) at (c .before .before .put-words .ensures)
+
+pub put-header-spec : {M : Type 1} → statement M
+put-header-spec =
+    tie.close
+    (tie.spec
+    number-requires
+    number-requires-2
+    total-for-requires
+    number-requires-3
+    slice-aggregate-put-words
+    put-words-requires
+    same-length
+    returns)

@@ -1,0 +1,10 @@
+pub mod Bytes
+pub mod BytesLaws
+pub mod Complement
+pub mod HeaderLaws
+pub mod PutSheet
+pub mod PutWords
+pub mod Records
+pub mod Sheet
+pub mod SheetLaws
+pub mod WellFormed

@@ -1,0 +1,4 @@
+// The sheet: a table's clock and live cells as bytes.
+pub mod bytes;
+pub mod judge;
+pub mod record;
