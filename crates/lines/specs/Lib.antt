@@ -1,7 +1,9 @@
 pub mod Spells
 pub mod Forms
 pub mod Runs
+pub mod RunLaws
 pub mod SpellsLaws
 pub mod Reading
+pub mod ReadingLaws
 pub mod Passing
 pub mod FormLaws

@@ -7,6 +7,10 @@ use lib.ListN.{length, drop}
 use Rattle.words.specs.Words.{natOf}
 use Rattle.spelling.specs.Decimal.{Decimal, Listed}
 
+-- these bytes and no others
+abbrev pub Is : List ℕ → List ℕ → Type 0
+Is word s = s ≡ word
+
 -- ok
 abbrev pub okLine : List ℕ
 okLine = 111 ∷ 107 ∷ 10 ∷ []
