@@ -7,3 +7,4 @@ pub mod Reading
 pub mod ReadingLaws
 pub mod Passing
 pub mod FormLaws
+pub mod Examples
