@@ -44,6 +44,7 @@ pub record Written (Line : List ℕ → Type 0) (before after : List ℕ) (r : �
   pub line : List ℕ
   pub spelt : Line line
   pub long : r ≡ length line
+  pub fits : r ≤ length before
   pub is : after ≡ line ++ drop r before
 
 -- a buffer without `room` for the longest such line is refused: nothing is written, and the answer is 0

@@ -50,7 +50,7 @@ unfoldable pub whole-line : {P : List ℕ → Type 0} {before after : List ℕ} 
 unfolding put
 whole-line {before} p =
     let long : _ ≡ length (p .bytes) = p .end ∙ omega arith in
-    record { line = p .bytes; spelt = p .spelt; long = long; is = p .is ∙ ap (λ (k : ℕ). p .bytes ++ drop k before) (sym long) }
+    record { line = p .bytes; spelt = p .spelt; long = long; fits = p .fits; is = p .is ∙ ap (λ (k : ℕ). p .bytes ++ drop k before) (sym long) }
 
 pub spelt-whole : {P : List ℕ → Type 0} {before after : List ℕ} {r : ℕ} (room : ℕ) → room ≤ length before → Put P before 0 after r → Spelt room P before after r
 spelt-whole room h p = record { refused = λ short. absurd (omega arith); written = λ enough. whole-line p }
