@@ -1,6 +1,6 @@
 -- A line has at most one form and one list of numbers; and what reading answers, by each way through the code.
 use mathlib.Core.Path.{_≡_, refl, sym, ap, ap₂, subst, _∙_}
-use mathlib.Core.Logic.{inl, inr}
+use mathlib.Core.Logic.{_↔_, inl, inr, ⊎-elim}
 use mathlib.Core.Bool.{Bool, true, false, cond, not}
 use mathlib.Core.List.{List, [], _∷_, _++_}
 use Prim.Native.Nat.{ℕ, zero, suc, _+_, _≤_}
@@ -110,6 +110,14 @@ module _ (line : List ℕ) where
       sym (line-of f)
       ∙ ap₂ lineOf (letter-is f p ∙ sym (letter-is g q)) (same-fields (after-word f p) (after-word g q) refl)
       ∙ line-of g
+
+  -- ---- what an answer says: a form exactly when the line is that form, and Bad exactly when it is none
+  pub form-exactly : {r : Line} → Reads line r → (f : Line) → (f ≡ Bad → ⊥) → (r ≡ f) ↔ IsForm f line
+  form-exactly {r} read f good = (λ e. ⊎-elim (λ bad. absurd (good (sym e ∙ bad))) (λ p. rw e at p) (read .right), λ p. sym (read .only f p))
+
+  pub bad-exactly : {r : Line} → Reads line r → (r ≡ Bad) ↔ ((f : Line) → IsForm f line → ⊥)
+  bad-exactly {r} read =
+      (λ e f p. rw (read .only f p ∙ e) at p, λ none. ⊎-elim (λ bad. bad) (λ p. absurd (none r p)) (read .right))
 
   -- ---- what reading answers
   reads-form : (r : Line) → IsForm r line → Reads line r

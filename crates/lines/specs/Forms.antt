@@ -50,7 +50,8 @@ abbrev pub moveNumbers : MoveNumbers → List ℤ
 moveNumbers n =
     n .start ∷ n .end ∷ n .xlow ∷ n .xhigh ∷ n .ylow ∷ n .yhigh ∷ n .xlow2 ∷ n .xhigh2 ∷ n .ylow2 ∷ n .yhigh2 ∷ []
 
--- the line is this form with these numbers. Bad is no form
+-- the line is this form with these numbers. Bad is no form: a line is bad where nothing above makes it one, as with two spaces together,
+-- a space at either end, a tab, a plus, ten digits, a field too few or too many, or a capital letter
 abbrev pub IsForm : Line → List ℕ → Type 0
 IsForm (Cell n) line = Form cellWord (cellNumbers n) line
 IsForm (Drop n) line = Form dropWord (dropNumbers n) line

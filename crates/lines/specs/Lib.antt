@@ -1,7 +1,10 @@
 pub mod Spells
 pub mod Forms
 pub mod Runs
+pub mod RunLaws
 pub mod SpellsLaws
 pub mod Reading
+pub mod ReadingLaws
 pub mod Passing
 pub mod FormLaws
+pub mod Examples

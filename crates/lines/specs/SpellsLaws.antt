@@ -9,7 +9,8 @@ use mir.Syntax.{w32}
 use mir.Val.{toZ, ofZ}
 use Rattle.whole.specs.Within.{Within, neg-in, lit-in, read32}
 use Rattle.lines.specs.Spells.{Spells, plain, minus}
-use Rattle.lines.specs.Runs.{IsDigit, AllDigits, none, and, Stops, digits-all, same-value, value-below, cut-once}
+use Rattle.lines.specs.Runs.{IsDigit, AllDigits, none, and, Stops}
+use Rattle.lines.specs.RunLaws.{digits-all, same-value, value-below, cut-once}
 use Rattle.lines.specs.Forms.{Fields, no-field, field}
 
 -- ---- a number that no further digit follows

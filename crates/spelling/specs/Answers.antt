@@ -7,6 +7,10 @@ use lib.ListN.{length, drop}
 use Rattle.words.specs.Words.{natOf}
 use Rattle.spelling.specs.Decimal.{Decimal, Listed}
 
+-- these bytes and no others
+abbrev pub Is : List ℕ → List ℕ → Type 0
+Is word s = s ≡ word
+
 -- ok
 abbrev pub okLine : List ℕ
 okLine = 111 ∷ 107 ∷ 10 ∷ []
@@ -40,6 +44,7 @@ pub record Written (Line : List ℕ → Type 0) (before after : List ℕ) (r : �
   pub line : List ℕ
   pub spelt : Line line
   pub long : r ≡ length line
+  pub fits : r ≤ length before
   pub is : after ≡ line ++ drop r before
 
 -- a buffer without `room` for the longest such line is refused: nothing is written, and the answer is 0

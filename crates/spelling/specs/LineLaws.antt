@@ -6,8 +6,9 @@ use lib.IntN.{ℤ}
 use lib.ListN.{length}
 use Rattle.words.specs.Words.{natOf}
 use Rattle.spelling.specs.Decimal.{Decimal, Listed}
-use Rattle.spelling.specs.Answers.{NoLine, HitsLine, noWord, hitsWord}
-use Rattle.spelling.specs.Putting.{Is, Put, put-then}
+use Rattle.spelling.specs.Answers.{Is, NoLine, HitsLine, noWord, hitsWord}
+use Rattle.spelling.specs.Putting.{Put}
+use Rattle.spelling.specs.PuttingLaws.{put-then}
 
 pub word-end : {word before after : List ℕ} {at r : ℕ} → Put (Is word) before at after r → r ≡ at + length word
 word-end {at} p = p .end ∙ ap (λ (s : List ℕ). at + length s) (p .spelt)

@@ -4,8 +4,8 @@ ghost use mathlib.Core.Path.{_≡_};
 ghost use Prim.Native.Nat.{_+_, _*_, _^_, _≤_, _<_};
 ghost use lib.ListN.{length, take};
 ghost use Rattle.spelling.specs.Decimal.{Decimal, Listed};
-ghost use Rattle.spelling.specs.Answers.{okLine, badLine, NoLine, HitsLine, Spelt};
-ghost use Rattle.spelling.specs.Putting.{Is, Room, Put};
+ghost use Rattle.spelling.specs.Answers.{Is, okLine, badLine, NoLine, HitsLine, Spelt};
+ghost use Rattle.spelling.specs.Putting.{Room, Put};
 
 // Room for a word of the answers, ten digits and a line feed; and for a space and ten digits.
 const NO_ROOM: usize = 14;

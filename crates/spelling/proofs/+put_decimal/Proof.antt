@@ -3,7 +3,7 @@ use lib.ListN.{length, length-set}
 use Rattle.spelling.specs.DecimalLaws.{ones-small, tenth-less}
 use native.Mathlib.Omega.{arith}
 use borrow.Author.Needs.{needs}
-use Rattle.spelling.specs.Putting.{put-long, room-one, put-one, room-front, room-last, put-last}
+use Rattle.spelling.specs.PuttingLaws.{put-long, room-one, put-one, room-front, room-last, put-last}
 use Prim.Native.Nat.{ℕ, _/_, _<_}
 use borrow.Fn.Kinds.{In}
 use borrow.Fn.PlainCycle.{Measures, is, falls, and}

@@ -2,7 +2,8 @@ use Prim.Native.Nat.{_+_, _*_, _-_, _≤_}
 use native.Mathlib.Omega.{arith}
 use lib.ListN.{length, take, set, length-set}
 use Rattle.spelling.specs.Decimal.{Listed, none}
-use Rattle.spelling.specs.Putting.{Put, put-nothing, put-long, room-ten, ends-by-ten, list-next, list-all}
+use Rattle.spelling.specs.Putting.{Put}
+use Rattle.spelling.specs.PuttingLaws.{put-nothing, put-long, room-ten, ends-by-ten, list-next, list-all}
 use borrow.Author.Needs.{needs}
 use Rattle.spelling.proofs.put_list.Statement.{statement}
 use Rattle.spelling.proofs.put_list.Tie as tie

@@ -2,7 +2,9 @@ use Prim.Native.Nat.{_+_, _-_, _≤_}
 use native.Mathlib.Omega.{arith}
 use borrow.Author.Needs.{needs}
 use lib.ListN.{length, take}
-use Rattle.spelling.specs.Putting.{Is, Put, word-none, put-long, word-next, word-all}
+use Rattle.spelling.specs.Answers.{Is}
+use Rattle.spelling.specs.Putting.{Put}
+use Rattle.spelling.specs.PuttingLaws.{word-none, put-long, word-next, word-all}
 use Rattle.spelling.proofs.put_word.Statement.{statement}
 use Rattle.spelling.proofs.put_word.Tie as tie
 

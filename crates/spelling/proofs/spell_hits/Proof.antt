@@ -3,7 +3,7 @@ use Prim.Native.Nat.{_+_, _*_, _≤_}
 use native.Mathlib.Omega.{arith}
 use lib.ListN.{length}
 use lib.Seq.{length-take-le}
-use Rattle.spelling.specs.Putting.{put-long, room-ten, ends-by-ten, spelt-whole, spelt-not}
+use Rattle.spelling.specs.PuttingLaws.{put-long, room-ten, ends-by-ten, spelt-whole, spelt-not}
 use Rattle.spelling.specs.LineLaws.{word-end, hits-line}
 use borrow.Author.Needs.{needs}
 use Rattle.spelling.proofs.spell_hits.Statement.{statement}

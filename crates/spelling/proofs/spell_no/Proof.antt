@@ -3,7 +3,7 @@ use native.Mathlib.Omega.{arith}
 use lib.ListN.{length}
 use Rattle.whole.specs.Within.{back}
 use Rattle.words.specs.Words.{natOf}
-use Rattle.spelling.specs.Putting.{put-long, room-ten, ends-by-ten, spelt-whole, spelt-not}
+use Rattle.spelling.specs.PuttingLaws.{put-long, room-ten, ends-by-ten, spelt-whole, spelt-not}
 use Rattle.spelling.specs.LineLaws.{word-end, no-line}
 use borrow.Author.Needs.{needs}
 use Rattle.spelling.proofs.spell_no.Statement.{statement}

@@ -1,4 +1,4 @@
-use Rattle.spelling.specs.Putting.{spelt-whole, spelt-not}
+use Rattle.spelling.specs.PuttingLaws.{spelt-whole, spelt-not}
 use borrow.Author.Needs.{needs}
 use Rattle.spelling.proofs.spell_ok.Statement.{statement}
 use Rattle.spelling.proofs.spell_ok.Tie as tie

@@ -1,4 +1,4 @@
-use Rattle.lines.specs.Reading.{no-field-left, no-space, after-space}
+use Rattle.lines.specs.ReadingLaws.{no-field-left, no-space, after-space}
 use borrow.Author.Needs.{needs}
 use Rattle.lines.proofs.field.field.Statement.{statement}
 use Rattle.lines.proofs.field.field.Tie as tie

@@ -2,7 +2,8 @@ use Prim.Native.Nat.{_+_, _-_, _≤_}
 use lib.ListN.{length}
 use Rattle.whole.specs.Tells.{passed-not, failed-not}
 use Rattle.words.specs.Parts.{part}
-use Rattle.lines.specs.Runs.{AllDigits, run-none, run-next, run-stops, run-ends}
+use Rattle.lines.specs.Runs.{AllDigits}
+use Rattle.lines.specs.RunLaws.{run-none, run-next, run-stops, run-ends}
 use borrow.Author.Needs.{needs}
 use Rattle.lines.proofs.number.count_digits.Statement.{statement}
 use Rattle.lines.proofs.number.count_digits.Tie as tie

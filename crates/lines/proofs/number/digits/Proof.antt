@@ -1,8 +1,8 @@
 use mathlib.Core.Path.{_∙_}
 use native.Mathlib.Omega.{arith}
 use Rattle.whole.specs.Within.{word-back}
-use Rattle.lines.specs.Runs.{value-small}
-use Rattle.lines.specs.Reading.{too-few, too-many, enough}
+use Rattle.lines.specs.RunLaws.{value-small}
+use Rattle.lines.specs.ReadingLaws.{too-few, too-many, enough}
 use borrow.Author.Needs.{needs}
 use Rattle.lines.proofs.number.digits.Statement.{statement}
 use Rattle.lines.proofs.number.digits.Tie as tie

@@ -1,7 +1,8 @@
 use mathlib.Core.Path.{subst}
 use Prim.Native.Nat.{_+_, _^_}
 use Rattle.whole.specs.Within.{Within, lit-in, sub-in, fits, read32, neg-read32}
-use Rattle.lines.specs.Reading.{DigitsRead, digits-in, no-number, unsigned, negative, not-negative}
+use Rattle.lines.specs.Reading.{DigitsRead}
+use Rattle.lines.specs.ReadingLaws.{digits-in, no-number, unsigned, negative, not-negative}
 use Rattle.lines.specs.declared.number.Found.the-variants.{Number}
 use borrow.Author.Needs.{needs}
 use Rattle.lines.proofs.number.number.Statement.{statement}

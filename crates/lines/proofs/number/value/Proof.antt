@@ -3,7 +3,7 @@ use mathlib.Core.Path.{_≡_}
 use native.Mathlib.Omega.{arith}
 use Rattle.words.specs.Parts.{part}
 use Rattle.lines.specs.Spells.{Digits}
-use Rattle.lines.specs.Runs.{value-none, value-next, value-small, digit-of}
+use Rattle.lines.specs.RunLaws.{value-none, value-next, value-small, digit-of}
 use borrow.Author.Needs.{needs}
 use Rattle.lines.proofs.number.value.Statement.{statement}
 use Rattle.lines.proofs.number.value.Tie as tie
