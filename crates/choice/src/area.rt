@@ -64,6 +64,15 @@ impl Extent {
         }
     }
 
+    fn nothing() -> Extent {
+        Extent {
+            low: FARTHEST,
+            high: -FARTHEST,
+            slowest: FASTEST,
+            fastest: -FASTEST,
+        }
+    }
+
     // The least extent that covers both from the minute on.
     fn with(self, other: Extent) -> Extent {
         Extent {
@@ -74,10 +83,11 @@ impl Extent {
         }
     }
 
+    // Edges count, so an extent of one place is 1 wide: bounds that are a line or a point can still be told apart by their areas.
     fn width(self) -> i64
         ensures { λ r. ⌜ Within (2 ^ 23) r ⌝ }
     {
-        held(self.high, FARTHEST) - held(self.low, FARTHEST)
+        held(self.high, FARTHEST) - held(self.low, FARTHEST) + 1
     }
 
     // By how much the width grows in a minute.
@@ -99,6 +109,14 @@ impl Extent {
 }
 
 impl Cover {
+    // What covers nothing: with it, any other is what it was.
+    pub fn nothing() -> Cover {
+        Cover {
+            x: Extent::nothing(),
+            y: Extent::nothing(),
+        }
+    }
+
     pub fn of(b: [[i32; 4]; 2], minute: i32) -> Cover {
         Cover {
             x: Extent::of(b[0], minute),

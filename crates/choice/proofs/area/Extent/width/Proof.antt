@@ -1,5 +1,5 @@
 use borrow.Author.Needs.{needs}
-use Rattle.whole.specs.Within.{widen, fits, read64, sub-in}
+use Rattle.whole.specs.Within.{widen, fits, read64, lit-in, add-in, sub-in}
 use Rattle.choice.proofs.area.Extent.width.Statement.{statement}
 use Rattle.choice.proofs.area.Extent.width.Tie as tie
 
@@ -10,10 +10,25 @@ held-requires-2 : tie.Need-held-requires-2
 held-requires-2 c κs = search needs
 
 sub-result : tie.Need-sub-result
-sub-result c = let a = c .before .before .held .ensures in let b = c .held2 .ensures in simp (read64 tt a, read64 tt b) (fits tt (sub-in a b))
+sub-result c =
+    let high = c .before .before .held .ensures in
+    let low = c .held2 .ensures in
+    simp (read64 tt high, read64 tt low) (fits tt (sub-in high low))
+
+add-result : tie.Need-add-result
+add-result c =
+    let high = c .before .before .held .ensures in
+    let low = c .held2 .ensures in
+    let gap = sub-in high low in
+    simp (read64 tt high, read64 tt low, read64 tt gap) (fits tt (add-in gap (lit-in 1 {bound = 1} tt)))
 
 returns : tie.Need-returns
-returns c = let a = c .before .before .held .ensures in let b = c .held2 .ensures in simp (read64 tt a, read64 tt b, read64 tt (sub-in a b)) (widen tt (sub-in a b))
+returns c =
+    let high = c .before .before .held .ensures in
+    let low = c .held2 .ensures in
+    let gap = sub-in high low in
+    let wide = add-in gap (lit-in 1 {bound = 1} tt) in
+    simp (read64 tt high, read64 tt low, read64 tt gap, read64 tt wide) (widen tt wide)
 
 pub width-spec : {M : Type 1} → statement M
-width-spec = tie.close (tie.spec held-requires held-requires-2 sub-result returns)
+width-spec = tie.close (tie.spec held-requires held-requires-2 sub-result add-result returns)
