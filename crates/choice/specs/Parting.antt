@@ -34,6 +34,12 @@ pub record Parts (marks : List Bool) : Type 0 where
   pub go : fewest ≤ marked marks
   pub stay : marked marks + fewest ≤ fullNode
 
+-- what that comes to for the entries es
+pub record Halves {A : Type 0} (marks : List Bool) (es : List A) : Type 0 where
+  pub go : fewest ≤ length (going marks es)
+  pub stay : fewest ≤ length (staying marks es)
+  pub all : length (going marks es) + length (staying marks es) ≡ length es
+
 -- ---- what the search for the next mark keeps
 -- of the first k places, `best` has no mark; where it is none of them, they all have one
 pub record FirstTo (marks : List Bool) (k best : ℕ) : Type 0 where
