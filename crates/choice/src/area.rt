@@ -2,13 +2,13 @@
 use whole::wide;
 ghost use lib.IntN.{pos, natAbs};
 ghost use lib.Signed.{_≤ℤ_};
-ghost use Prim.Native.Nat.{_+_, _^_};
+ghost use Prim.Native.Nat.{_^_};
 ghost use Rattle.whole.specs.Within.{Within};
 
 // The minutes that a choice looks ahead.
 const HORIZON: i64 = 30;
 
-// How far from 0 an edge of a sound table is at any minute, 2,311,840 + 512 · 1,440, and how fast it goes.
+// An edge in a sound table is at no minute farther from 0 than 2,311,840 + 512 · 1,440, and none goes faster.
 const FARTHEST: i64 = 3049120;
 
 const FASTEST: i64 = 512;
@@ -27,15 +27,15 @@ pub struct Cover {
     pub y: Extent,
 }
 
-pub fn lesser(a: i64, b: i64) -> i64 {
+fn lesser(a: i64, b: i64) -> i64 {
     if b < a { b } else { a }
 }
 
-pub fn greater(a: i64, b: i64) -> i64 {
+fn greater(a: i64, b: i64) -> i64 {
     if a < b { b } else { a }
 }
 
-// z, or the end of the range that it lies beyond. In a sound table nothing does; any other words are taken without harm.
+// z, or the end of the range where z lies beyond it. In a sound table nothing does; so that products fit, no more is asked of the words.
 fn held(z: i64, bound: i64) -> i64
     requires { ⌜ (pos 0 ≤ℤ bound) × (bound ≤ℤ pos (2 ^ 23)) ⌝ }
     ensures { λ r. ⌜ Within (natAbs bound) r ⌝ }
@@ -83,7 +83,7 @@ impl Extent {
         }
     }
 
-    // Edges count, so an extent of one place is 1 wide: bounds that are a line or a point can still be told apart by their areas.
+    // Edges count, so one place is 1 wide: without that, bounds on a line would all have the area 0, however long they are.
     fn width(self) -> i64
         ensures { λ r. ⌜ Within (2 ^ 23) r ⌝ }
     {
@@ -131,7 +131,7 @@ impl Cover {
         }
     }
 
-    // The integral of the area (a + bt)(c + dt) over the horizon, acH + (ad + bc)H²/2 + bdH³/3, six times, which is whole for every H.
+    // Six times the integral of the area (a + bt)(c + dt) over the horizon H, which is acH + (ad + bc)H²/2 + bdH³/3: whole for every H.
     pub fn integral(self) -> i64
         ensures { λ r. ⌜ Within (2 ^ 54) r ⌝ }
     {

@@ -2,8 +2,7 @@
 use crate::area::Cover;
 use node::entry::bounds;
 use node::entry::count;
-ghost use Prim.Native.Nat.{_<_, _^_};
-ghost use Rattle.whole.specs.Within.{Within};
+ghost use Prim.Native.Nat.{_<_};
 ghost use Rattle.words.specs.Layout.{fullNode};
 ghost use Rattle.node.specs.Entry.{countOf};
 
