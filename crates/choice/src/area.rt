@@ -21,7 +21,7 @@ pub struct Extent {
     pub fastest: i64,
 }
 
-// What is covered on both.
+// What is covered on both axes.
 pub struct Cover {
     pub x: Extent,
     pub y: Extent,
@@ -35,7 +35,7 @@ fn greater(a: i64, b: i64) -> i64 {
     if a < b { b } else { a }
 }
 
-// z, or the end of the range where z lies beyond it. In a sound table nothing does; so that products fit, no more is asked of the words.
+// z, or the nearest number within the bound. No number of a sound table is changed; of other words the products fit as well.
 fn held(z: i64, bound: i64) -> i64
     requires { ⌜ (pos 0 ≤ℤ bound) × (bound ≤ℤ pos (2 ^ 23)) ⌝ }
     ensures { λ r. ⌜ Within (natAbs bound) r ⌝ }
@@ -49,7 +49,7 @@ fn held(z: i64, bound: i64) -> i64
     z
 }
 
-// Where an edge is at a minute that is at `at` at minute 0 and goes by v.
+// Where an edge that is at `at` at minute 0 and goes by v is at the minute.
 fn edge_at(at: i32, v: i32, minute: i32) -> i64 {
     wide(at) + wide(v) * wide(minute)
 }
