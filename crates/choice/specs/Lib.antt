@@ -1,0 +1,3 @@
+pub mod Parting
+pub mod Marks
+pub mod Walk
