@@ -1,4 +1,4 @@
-// The area that bounds cover over the coming minutes: the integral of source document 000, §3.3, formula 1.
+// The area that bounds cover over the coming minutes: the integral of the paper on the TPR-tree, §3.3, formula 1.
 use whole::wide;
 ghost use lib.IntN.{pos, natAbs};
 ghost use lib.Signed.{_≤ℤ_};

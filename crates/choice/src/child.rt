@@ -1,4 +1,4 @@
-// Which child a cell enters: that whose area integral grows least by it (source document 000, §3.4).
+// Which child a cell enters: that whose area integral grows least by it, as in the paper on the TPR-tree, §3.4.
 use crate::area::Cover;
 use node::entry::bounds;
 use node::entry::count;
