@@ -6,6 +6,7 @@ pub mod Leaf
 pub mod Root
 pub mod Climb
 pub mod Used
+pub mod FirstFree
 pub mod PutIn
 pub mod TakeOut
 pub mod Whole

@@ -1,1 +1,2 @@
 // Putting in and taking out: how the tree of a table is changed.
+pub mod free;
