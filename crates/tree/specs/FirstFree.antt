@@ -30,6 +30,7 @@ found-free {N} {n} {r} f some = by (decLt (some .0) r)
   where
     at : (some .0 < r → ⊥) → (r < n) × Free N r
     at not-before = let low : r < n = omega (arith, some .1) in (low, f .free low)
+
     by : Dec (some .0 < r) → (r < n) × Free N r
     by (yes lt) = absurd (f .before .taken (some .0) lt (some .2))
     by (no ne) = at ne
