@@ -7,6 +7,7 @@ pub mod Root
 pub mod Climb
 pub mod Used
 pub mod FirstFree
+pub mod EntryAfresh
 pub mod PutIn
 pub mod TakeOut
 pub mod Whole
