@@ -8,6 +8,7 @@ pub mod Climb
 pub mod Used
 pub mod FirstFree
 pub mod EntryAfresh
+pub mod Kept
 pub mod PutIn
 pub mod TakeOut
 pub mod Whole

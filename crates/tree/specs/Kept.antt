@@ -1,0 +1,57 @@
+-- What every change of a tree keeps of the table's words: how many they are, the header, those past the table's need; and counts stay counts.
+use mathlib.Core.Path.{_≡_, refl, ap, _∙_}
+use mathlib.Core.List.{List}
+use Prim.Native.Nat.{ℕ, _≤_, _<_}
+use native.Mathlib.Decide.{ℕ-discrete}
+use native.Mathlib.Omega.{arith}
+use lib.IntN.{ℤ}
+use lib.ListN.{length}
+use Rattle.words.specs.Layout.{header, nodeAt}
+use Rattle.words.specs.Words.{wordAt}
+use Rattle.node.specs.Entry.{Entry, entriesOf, countWord, IsCount}
+use Rattle.node.specs.ChangeAt.{Changed}
+use Rattle.table.specs.Header.{nodesFor, wordsFor, entriesAt}
+
+-- each node of a table of so many cells has a count
+abbrev pub Counted : ℕ → List ℤ → Type 0
+Counted cells w = (i : ℕ) → i < nodesFor cells → IsCount (countWord (nodeAt w i))
+
+pub record Kept (cells : ℕ) (w w′ : List ℤ) : Type 0 where
+  pub same-length : length w′ ≡ length w
+  pub same-header : (at : ℕ) → at < header → wordAt w′ at ≡ wordAt w at
+  pub same-rest : (at : ℕ) → wordsFor cells ≤ at → wordAt w′ at ≡ wordAt w at
+  pub still-counted : Counted cells w → Counted cells w′
+
+pub kept-all : (cells : ℕ) (w : List ℤ) → Kept cells w w
+kept-all cells w = record { same-length = refl; same-header = λ at h. refl; same-rest = λ at h. refl; still-counted = λ c. c }
+
+pub kept-then : {cells : ℕ} {w v u : List ℤ} → Kept cells w v → Kept cells v u → Kept cells w u
+kept-then k l = record {
+  same-length = l .same-length ∙ k .same-length;
+  same-header = λ at h. l .same-header at h ∙ k .same-header at h;
+  same-rest = λ at h. l .same-rest at h ∙ k .same-rest at h;
+  still-counted = λ c. l .still-counted (k .still-counted c);
+}
+
+-- one node of the table changed
+module _ {w w′ : List ℤ} {i : ℕ} {es : List Entry} (c : Changed w i es w′) where
+  pub changed-kept : {cells : ℕ} → i < nodesFor cells → Kept cells w w′
+  changed-kept {cells} low = record {
+    same-length = c .same-length;
+    same-header = c .before;
+    same-rest = λ at h. c .behind at (omega arith);
+    still-counted = λ each j lt. by each j lt (ℕ-discrete j i);
+  }
+    where
+      by : Counted cells w → (j : ℕ) → j < nodesFor cells → Dec (j ≡ i) → IsCount (countWord (nodeAt w′ j))
+      by each j lt (yes e) = rw e (c .still-counted (each i low))
+      by each j lt (no ne) = rw (c .others j ne) (each j lt)
+
+  -- its entries, and those of the others
+  pub changed-here : entriesAt w′ i ≡ es
+  unfolding entriesAt
+  changed-here = c .entries
+
+  pub changed-others : (j : ℕ) → (j ≡ i → ⊥) → entriesAt w′ j ≡ entriesAt w j
+  unfolding entriesAt
+  changed-others j ne = ap entriesOf (c .others j ne)
