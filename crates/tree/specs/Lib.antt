@@ -13,3 +13,4 @@ pub mod PutIn
 pub mod TakeOut
 pub mod Whole
 pub mod Enter
+pub mod SoundWhole
