@@ -1,23 +1,46 @@
 -- The entry above a node, worked out afresh at the clock.
 use mathlib.Core.Path.{_≡_, ap}
 use mathlib.Core.Bool.{Bool}
-use Prim.Native.Nat.{ℕ, zero, suc, _≤_, _<_}
+use mathlib.Core.List.{List}
+use Prim.Native.Nat.{ℕ, zero, suc, _^_, _≤_, _<_}
 use native.Mathlib.Omega.{arith}
 use lib.Dec.{lt→ltb, le→leb}
 use lib.IntN.{ℤ, pos}
-use lib.ListN.{length}
+use lib.ListN.{length, set}
+use Rattle.words.specs.Layout.{entryWords, InTable, nodeAt, setNode, setEntry}
 use Rattle.words.specs.Words.{natOf}
 use Rattle.track.specs.Numbers.{IsMinute}
-use Rattle.node.specs.Entry.{Entry, childOf}
+use Rattle.node.specs.Entry.{Entry, childOf, countOf}
+use Rattle.node.specs.EntryLaws.{length-entriesOf}
+use Rattle.node.specs.ChangeAt.{Changed}
+use Rattle.node.specs.ChangeAtLaws.{put-changes}
 use Rattle.node.specs.Made.{workedOut, InRangeAt, innerEntry}
 use Rattle.node.specs.MadeLaws.{cells-in-range, stamped-in-range, child-inner, stamp-inner, inner-worked-out}
-use Rattle.table.specs.Header.{nodesFor, IsNode}
+use Rattle.table.specs.Header.{nodesFor, IsNode, entriesAt}
 use Rattle.table.specs.Tree.{Nodes, isLeaf, TreeSound}
 use Rattle.table.specs.EdgesLaw.{edges-at}
 use Rattle.tree.specs.Regroup.{Afresh}
 
 unfoldable pub entryAbove : Nodes → Bool → ℤ → ℕ → Entry
 entryAbove N leaf minute child = innerEntry child (workedOut leaf minute (N child)) minute
+
+-- node i has an entry k, and the child is a node of the table
+pub record CanRefresh (w : List ℤ) (i k child : ℕ) : Type 0 where
+  pub in-table : InTable w i
+  pub low : k < length (entriesAt w i)
+  pub child-in-table : InTable w child
+  pub child-low : child < 2 ^ 31
+
+-- then k is below the count
+pub refresh-low : {w : List ℤ} {i k child : ℕ} → CanRefresh w i k child → k < countOf (nodeAt w i)
+unfolding entriesAt
+refresh-low {w} {i} c = rw (← length-entriesOf (nodeAt w i)) (c .low)
+
+-- what is put in the place of the entry
+pub refresh-changes : {w : List ℤ} {i k child : ℕ} → CanRefresh w i k child → (e : Entry) → length e ≡ entryWords
+    → Changed w i (set (entriesAt w i) k e) (setNode w i (setEntry (nodeAt w i) k e))
+unfolding entriesAt
+refresh-changes {w} {i} {k} c e whole = put-changes w i (c .in-table) k e (refresh-low c) whole
 
 module _ (N : Nodes) (leaf : Bool) (minute : ℤ) (child : ℕ) where
   pub child-above : childOf (entryAbove N leaf minute child) ≡ child

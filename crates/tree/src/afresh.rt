@@ -1,15 +1,18 @@
 // Entries worked out afresh.
+use node::change_at::put_at;
 use node::made::inner_entry;
 use node::made::work_out;
 use table::scan::node_at;
 use words::Entry;
 ghost use mathlib.Core.Path.{_≡_};
 ghost use Prim.Native.Nat.{_^_, _<_};
+ghost use lib.ListN.{set};
 ghost use Rattle.words.specs.Layout.{InTable};
 ghost use Rattle.track.specs.Numbers.{IsMinute};
 ghost use Rattle.node.specs.Made.{InRangeAt};
+ghost use Rattle.node.specs.ChangeAt.{Changed};
 ghost use Rattle.table.specs.Header.{entriesAt};
-ghost use Rattle.tree.specs.EntryAfresh.{entryAbove};
+ghost use Rattle.tree.specs.EntryAfresh.{entryAbove, CanRefresh};
 
 // The entry above a node, worked out at the minute.
 pub fn entry_above(t: &[i32], child: usize, leaf: bool, minute: i32) -> Entry
@@ -18,4 +21,13 @@ pub fn entry_above(t: &[i32], child: usize, leaf: bool, minute: i32) -> Entry
 {
     let made = work_out(node_at(t, child), leaf, minute);
     inner_entry(child, made, minute)
+}
+
+// Puts the entry above a node, worked out at the minute, in the place of node i's entry k.
+pub fn refresh(t: &mut [i32], i: usize, k: usize, child: usize, leaf: bool, minute: i32)
+    requires { ⌜ (CanRefresh (now t) i k child) × (IsMinute minute) × (InRangeAt leaf minute (entriesAt (now t) child)) ⌝ }
+    ensures { λ _. ⌜ Changed (now (t .entry)) i (set (entriesAt (now (t .entry)) i) k (entryAbove (entriesAt (now (t .entry))) leaf minute child)) (now (t .exit)) ⌝ }
+{
+    let e = entry_above(t, child, leaf, minute);
+    put_at(t, i, k, e);
 }
