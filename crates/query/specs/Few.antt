@@ -9,6 +9,7 @@ use lib.IntN.{ℤ}
 use lib.ListN.{length, length-map}
 use Rattle.whole.specs.Lists.{_∈_, no-repeat-fits}
 use Rattle.whole.specs.Rising.{<ℤ-no-repeat}
+use Rattle.track.specs.Life.{identifier}
 use Rattle.track.specs.Refusals.{First}
 use Rattle.track.specs.declared.query.Query.{Query}
 use Rattle.node.specs.Entry.{cellOf}
@@ -16,7 +17,7 @@ use Rattle.table.specs.Header.{capacity, clock, root, height, greatestCapacity,
 use Rattle.table.specs.HeaderLaws.{capacity-low}
 use Rattle.table.specs.Tree.{leavesOf}
 use Rattle.table.specs.Counts.{few-nodes}
-use Rattle.table.specs.Sound.{Sound, held, identifier}
+use Rattle.table.specs.Sound.{Sound, held}
 use Rattle.query.specs.Opened.{openedNodes}
 use Rattle.query.specs.Hits.{Hits}
 use Rattle.query.specs.Finding.{opened-less}

@@ -12,15 +12,16 @@ use Rattle.whole.specs.Difference.{each, difs}
 use Rattle.whole.specs.Lists.{_∈_}
 use Rattle.whole.specs.Rising.{Rising, rising-one, rising-more, rising-tail}
 use Rattle.whole.specs.Tells.{Tells, tells-true, tells-false}
+use Rattle.track.specs.Life.{identifier, LivesAt}
 use Rattle.track.specs.Small.{CellInRange}
 use Rattle.track.specs.declared.cell.Cell.{Cell}
 use Rattle.sheet.specs.Sheet.{clockOf, countOf, cellAt, cellsFrom, cellsOf}
-use Rattle.sheet.specs.WellFormed.{identifier, InLife, CellsSound, RecordsSound}
+use Rattle.sheet.specs.WellFormed.{CellsSound, RecordsSound}
 
 -- a cell may follow one whose identifier is `last`; 0 where none goes before
 pub record Follows (clock last : ℤ) (c : Cell) : Type 0 where
   pub in-range : CellInRange c
-  pub in-life : InLife clock c
+  pub in-life : LivesAt clock c
   pub after : last <ℤ c .id
 
 -- each cell may follow the one before it
@@ -50,11 +51,11 @@ module _ {clock : ℤ} where
   each-in-range none-left d m = absurd (List·Memᴰ·not-nil m)
   each-in-range (one-more {c} f rest) d m = ⊎-elim (λ (e : d ≡ c). rw e (f .in-range)) (λ n. each-in-range rest d n) (List·Memᴰ·cases-cons m)
 
-  each-in-life : {last : ℤ} {cells : List Cell} → Following clock last cells → (d : Cell) → d ∈ cells → InLife clock d
+  each-in-life : {last : ℤ} {cells : List Cell} → Following clock last cells → (d : Cell) → d ∈ cells → LivesAt clock d
   each-in-life none-left d m = absurd (List·Memᴰ·not-nil m)
   each-in-life (one-more {c} f rest) d m = ⊎-elim (λ (e : d ≡ c). rw e (f .in-life)) (λ n. each-in-life rest d n) (List·Memᴰ·cases-cons m)
 
-  cells-follow : (last : ℤ) (cells : List Cell) → ((c : Cell) → c ∈ cells → CellInRange c) → ((c : Cell) → c ∈ cells → InLife clock c)
+  cells-follow : (last : ℤ) (cells : List Cell) → ((c : Cell) → c ∈ cells → CellInRange c) → ((c : Cell) → c ∈ cells → LivesAt clock c)
       → Rising _<ℤ_ (last ∷ map identifier cells) → Following clock last cells
   cells-follow last [] range life up = none-left
   cells-follow last (c ∷ cells) range life (rising-more r up) =

@@ -7,6 +7,7 @@ use lib.Signed.{_≤ℤ_, _<ℤ_}
 use lib.ListN.{length}
 use Rattle.whole.specs.Lists.{_∈_}
 use Rattle.whole.specs.Rising.{Rising}
+use Rattle.track.specs.Life.{identifier, LivesAt}
 use Rattle.track.specs.Numbers.{IsMinute}
 use Rattle.track.specs.Small.{CellInRange}
 use Rattle.track.specs.Refusals.{Reason, _when_, First, number}
@@ -30,17 +31,10 @@ pub record HeaderSound (limit : ℕ) (bytes : List ℕ) : Type 0 where
   -- the total is the length given
   pub total-given : totalWord bytes ≡ pos (length bytes)
 
-abbrev pub identifier : Cell → ℤ
-identifier c = c .id
-
--- a cell's expiry is not before the clock
-abbrev pub InLife : ℤ → Cell → Type 0
-InLife clock c = clock ≤ℤ c .expiry .at
-
 -- cells that may stand on a sheet with this clock: what its records must be, or 12 is given
 pub record CellsSound (clock : ℤ) (cells : List Cell) : Type 0 where
   pub in-range : (c : Cell) → c ∈ cells → CellInRange c
-  pub in-life : (c : Cell) → c ∈ cells → InLife clock c
+  pub in-life : (c : Cell) → c ∈ cells → LivesAt clock c
   pub rising : Rising _<ℤ_ (map identifier cells)
 
 abbrev pub RecordsSound : List ℕ → Type 0

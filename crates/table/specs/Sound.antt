@@ -9,6 +9,7 @@ use lib.Signed.{_≤ℤ_}
 use Rattle.whole.specs.Lists.{_∈_, NoRepeat}
 use Rattle.words.specs.Layout.{nodeAt}
 use Rattle.track.specs.Numbers.{IsMinute}
+use Rattle.track.specs.Life.{identifier, LivesAt}
 use Rattle.track.specs.declared.cell.Cell.{Cell}
 use Rattle.node.specs.Entry.{cellOf, countWord, IsCount}
 use Rattle.table.specs.Header.{capacityWord, capacity, clock, rootWord, root, heightWord, height, IsCapacity, nodesFor, wordsFor, IsNode, entriesAt}
@@ -22,13 +23,10 @@ reached w = nodesOf (entriesAt w) (height w) (root w)
 abbrev pub held : List ℤ → List Cell
 held w = map cellOf (leavesOf (entriesAt w) (height w) (root w))
 
-abbrev pub identifier : Cell → ℤ
-identifier c = c .id
-
 -- a cell is live when its expiry is not before the clock
 pub record Live (w : List ℤ) (c : Cell) : Type 0 where
   pub is-held : c ∈ held w
-  pub in-life : clock w ≤ℤ c .expiry .at
+  pub in-life : LivesAt (clock w) c
 
 pub record Sound (w : List ℤ) : Type 0 where
   pub capacity-in : IsCapacity (capacityWord w)

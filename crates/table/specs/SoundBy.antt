@@ -18,6 +18,7 @@ use Rattle.whole.specs.Times.{times, once-if, times-in, in-times, no-repeat-tim
 use Rattle.words.specs.Layout.{nodeAt, fullNode}
 use Rattle.words.specs.Words.{natOf}
 use Rattle.words.specs.WordLaws.{pos-natOf}
+use Rattle.track.specs.Life.{identifier}
 use Rattle.track.specs.Numbers.{IsMinute}
 use Rattle.track.specs.Small.{CellInRange}
 use Rattle.node.specs.Entry.{Entry, cellOf, childOf, countWord, IsCount}
@@ -25,7 +26,7 @@ use Rattle.table.specs.Header.{capacityWord, capacity, clock, rootWord, 
 use Rattle.table.specs.HeaderLaws.{capacity-low}
 use Rattle.table.specs.Tree.{Nodes, leavesOf, nodesOf, EntrySound, TreeSound}
 use Rattle.table.specs.Reach.{flat-in}
-use Rattle.table.specs.Sound.{reached, held, identifier, Sound}
+use Rattle.table.specs.Sound.{reached, held, Sound}
 use Rattle.table.specs.ScanParts.{node-below}
 use Rattle.table.specs.Ready.{Ready}
 use Rattle.table.specs.Scan.{leavesIn, nodesIn, SoundIn, leaves-in, nodes-in, sound-in, in-sound, keyOf, Counted, Passes, Leaves, mark-put}

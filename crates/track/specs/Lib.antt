@@ -1,6 +1,7 @@
 pub mod Numbers
 pub mod Refusals
 pub mod Report
+pub mod Life
 pub mod Query
 pub mod Meets
 pub mod Cut

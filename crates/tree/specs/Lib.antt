@@ -14,3 +14,4 @@ pub mod TakeOut
 pub mod Whole
 pub mod Enter
 pub mod SoundWhole
+pub mod Steps

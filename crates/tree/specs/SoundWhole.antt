@@ -12,11 +12,12 @@ use Rattle.whole.specs.Lists.{_∈_, NoRepeat}
 use Rattle.whole.specs.Times.{in-times, times-in}
 use Rattle.words.specs.Layout.{nodeAt}
 use Rattle.words.specs.Words.{natOf}
+use Rattle.track.specs.Life.{identifier}
 use Rattle.track.specs.Numbers.{IsMinute}
 use Rattle.node.specs.Entry.{countWord, countOf, IsCount}
 use Rattle.node.specs.EntryLaws.{count-is}
 use Rattle.table.specs.Header.{capacityWord, capacity, clock, rootWord, root, heightWord, height, IsCapacity, nodesFor, wordsFor, IsNode, entriesAt}
-use Rattle.table.specs.Sound.{Sound, reached, held, identifier}
+use Rattle.table.specs.Sound.{Sound, reached, held}
 use Rattle.table.specs.ScanParts.{node-below}
 use Rattle.tree.specs.Weights.{visits, once-no-repeat, no-repeat-once}
 use Rattle.tree.specs.Used.{Free}

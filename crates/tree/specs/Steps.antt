@@ -1,0 +1,79 @@
+-- What a report and a drop answer, and the table that they leave.
+use mathlib.Core.Path.{_≡_}
+use mathlib.Core.Logic.{_⊎_, _↔_}
+use mathlib.Core.List.{List, [], _∷_, _++_}
+use Prim.Native.Nat.{ℕ}
+use lib.IntN.{ℤ}
+use lib.ListN.{length, drop}
+use lib.Signed.{_<ℤ_}
+use Rattle.whole.specs.Lists.{_∈_, NoRepeat}
+use Rattle.track.specs.Numbers.{IsMinute, IsIdentifier}
+use Rattle.track.specs.Life.{LivesAt}
+use Rattle.track.specs.Refusals.{Reason, _when_, First}
+use Rattle.track.specs.Report.{reportReasons, keptCell}
+use Rattle.track.specs.declared.cell.Cell.{Cell}
+use Rattle.table.specs.Header.{capacityWord, capacity, clock, wordsFor}
+use Rattle.table.specs.Sound.{held, Live, Sound}
+
+-- c is held, lives at the minute, and is another cell than the one with this identifier
+pub record Stays (w : List ℤ) (minute id : ℤ) (c : Cell) : Type 0 where
+  pub is-held : c ∈ held w
+  pub lives : LivesAt minute c
+  pub other : c .id ≡ id → ⊥
+
+-- a cell with this identifier is held and lives at the minute
+pub record IsThere (w : List ℤ) (minute id : ℤ) : Type 0 where
+  pub cell : Cell
+  pub is-held : cell ∈ held w
+  pub lives : LivesAt minute cell
+  pub has-id : cell .id ≡ id
+
+-- as many other cells as the table has room for live at the minute
+pub record NoRoom (w : List ℤ) (minute id : ℤ) : Type 0 where
+  pub others : List Cell
+  pub once : NoRepeat others
+  pub each : (c : Cell) → c ∈ others → Stays w minute id c
+  pub full : length others ≡ capacity w
+
+-- an accepted call at the minute makes of the table w the table w′, in which the cells are live that are `Left`
+pub record Step (w w′ : List ℤ) (minute : ℤ) (Left : Cell → Type 0) : Type 0 where
+  pub sound : Sound w′
+  pub capacity-is : capacityWord w′ ≡ capacityWord w
+  pub clock-is : clock w′ ≡ minute
+  pub live : (c : Cell) → Live w′ c ↔ Left c
+  pub as-long : length w′ ≡ length w
+  pub rest-kept : drop (wordsFor (capacity w)) w′ ≡ drop (wordsFor (capacity w)) w
+
+-- ---- a report
+abbrev pub reportRefusals : List ℤ → ℤ → ℤ → ℤ → ℤ → ℤ → ℤ → ℤ → List Reason
+reportRefusals w id x y vx vy minute expiry =
+    1 when (Sound w → ⊥) ∷ (reportReasons (clock w) id x y vx vy minute expiry ++ (9 when NoRoom w minute id ∷ []))
+
+-- the reported cell is live afterwards, and the others that live at the minute
+abbrev pub LeftByReport : List ℤ → ℤ → ℤ → ℤ → ℤ → ℤ → ℤ → ℤ → Cell → Type 0
+LeftByReport w id x y vx vy minute expiry c = (c ≡ keptCell id x y vx vy minute expiry) ⊎ Stays w minute id c
+
+-- n is the call's number, and w′ what it leaves
+pub record ReportSteps (w : List ℤ) (id x y vx vy minute expiry : ℤ) (n : ℕ) (w′ : List ℤ) : Type 0 where
+  pub refusal : First (reportRefusals w id x y vx vy minute expiry) n
+  pub accepted : n ≡ 0 → Step w w′ minute (LeftByReport w id x y vx vy minute expiry)
+  pub refused : (n ≡ 0 → ⊥) → w′ ≡ w
+
+-- ---- a drop
+pub record DropInRange (id minute : ℤ) : Type 0 where
+  pub identifier : IsIdentifier id
+  pub minute-in : IsMinute minute
+
+abbrev pub dropRefusals : List ℤ → ℤ → ℤ → List Reason
+dropRefusals w id minute =
+    1 when (Sound w → ⊥) ∷
+    4 when (DropInRange id minute → ⊥) ∷
+    5 when (minute <ℤ clock w) ∷
+    8 when (IsThere w minute id → ⊥) ∷
+    []
+
+-- the other cells that live at the minute are live afterwards
+pub record DropSteps (w : List ℤ) (id minute : ℤ) (n : ℕ) (w′ : List ℤ) : Type 0 where
+  pub refusal : First (dropRefusals w id minute) n
+  pub accepted : n ≡ 0 → Step w w′ minute (Stays w minute id)
+  pub refused : (n ≡ 0 → ⊥) → w′ ≡ w
