@@ -8,7 +8,10 @@ pub mod Climb
 pub mod Used
 pub mod FirstFree
 pub mod EntryAfresh
+pub mod AtNode
 pub mod Kept
+pub mod Shift
+pub mod Marked
 pub mod PutIn
 pub mod TakeOut
 pub mod Whole
