@@ -47,6 +47,11 @@ module _ (N : Nodes) (leaf : Bool) (minute : ℤ) (child : ℕ) where
   unfolding entryAbove natOf
   child-above = ap natOf (child-inner child _ minute)
 
+-- it looks at the entries of the child only
+pub above-same : (N N′ : Nodes) (leaf : Bool) (minute : ℤ) (child : ℕ) → N′ child ≡ N child → entryAbove N′ leaf minute child ≡ entryAbove N leaf minute child
+unfolding entryAbove
+above-same N N′ leaf minute child same = rw same
+
 -- the entries of a sound node are in range at the clock
 pub sound-in-range : (N : Nodes) (cells : ℕ) (clock : ℤ) (h i : ℕ) → IsMinute clock → TreeSound N cells clock h i → InRangeAt (isLeaf h) clock (N i)
 unfolding TreeSound

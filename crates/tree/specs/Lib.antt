@@ -12,6 +12,7 @@ pub mod AtNode
 pub mod Kept
 pub mod Shift
 pub mod Marked
+pub mod Part
 pub mod PutIn
 pub mod TakeOut
 pub mod Whole

@@ -1,4 +1,6 @@
 // Putting in and taking out: how the tree of a table is changed.
 pub mod afresh;
+pub mod at;
 pub mod free;
+pub mod part;
 pub mod shift;
