@@ -17,5 +17,6 @@ pub mod PutIn
 pub mod TakeOut
 pub mod Whole
 pub mod Enter
+pub mod Way
 pub mod SoundWhole
 pub mod Steps

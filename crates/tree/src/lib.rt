@@ -3,4 +3,5 @@ pub mod afresh;
 pub mod at;
 pub mod free;
 pub mod part;
+pub mod put;
 pub mod shift;
