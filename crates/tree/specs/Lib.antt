@@ -18,5 +18,6 @@ pub mod TakeOut
 pub mod Whole
 pub mod Enter
 pub mod Way
+pub mod Puts
 pub mod SoundWhole
 pub mod Steps
