@@ -9,6 +9,7 @@ pub mod Used
 pub mod FirstFree
 pub mod EntryAfresh
 pub mod AtNode
+pub mod Headed
 pub mod Kept
 pub mod Shift
 pub mod Marked

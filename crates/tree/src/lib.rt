@@ -2,6 +2,7 @@
 pub mod afresh;
 pub mod at;
 pub mod free;
+pub mod header;
 pub mod part;
 pub mod put;
 pub mod shift;
