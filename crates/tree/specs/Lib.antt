@@ -13,11 +13,12 @@ pub mod Headed
 pub mod Kept
 pub mod Shift
 pub mod Marked
-pub mod Part
 pub mod PutIn
 pub mod TakeOut
 pub mod Whole
 pub mod Enter
+pub mod Part
+pub mod PartLaws
 pub mod Way
 pub mod Puts
 pub mod SoundWhole
