@@ -58,7 +58,8 @@ unfolding TreeSound
 sound-in-range N cells clock zero i is sound = cells-in-range clock sound
 sound-in-range N cells clock (suc h) i is sound = stamped-in-range is (λ e m. sound e m .0 .stamped) (λ e m. edges-at N cells clock h i sound m)
 
-is-node-at : {cells n : ℕ} → n < nodesFor cells → IsNode cells (pos n)
+-- the number of a node of the table, as a word
+pub is-node-at : {cells n : ℕ} → n < nodesFor cells → IsNode cells (pos n)
 is-node-at {cells} {n} low = record { from = record { le = le→leb 0 n (omega arith) }; to = record { lt = lt→ltb n (nodesFor cells) low } }
 
 -- above a node of the table that is filled it is afresh

@@ -21,5 +21,8 @@ pub mod Part
 pub mod PartLaws
 pub mod Way
 pub mod Puts
+pub mod Holding
+pub mod Tall
+pub mod Grow
 pub mod SoundWhole
 pub mod Steps
