@@ -24,5 +24,6 @@ pub mod Puts
 pub mod Holding
 pub mod Tall
 pub mod Grow
+pub mod PutCell
 pub mod SoundWhole
 pub mod Steps

@@ -5,4 +5,5 @@ pub mod free;
 pub mod header;
 pub mod part;
 pub mod put;
+pub mod root;
 pub mod shift;
