@@ -17,7 +17,7 @@ use Rattle.node.specs.ChangeAt.{Changed}
 use Rattle.node.specs.Made.{InRangeAt}
 use Rattle.table.specs.Header.{capacity, root, rootWord, height, heightWord, nodesFor, entriesAt}
 use Rattle.table.specs.Tree.{Nodes, isLeaf, leavesOf, nodesOf, TreeSound}
-use Rattle.tree.specs.Weights.{SameWeights, same-trans, isNode}
+use Rattle.tree.specs.Weights.{SameWeights, same-refl, same-trans, isNode}
 use Rattle.tree.specs.Moved.{noWeight, noNode, moved-same}
 use Rattle.tree.specs.Used.{Free, used, free-one}
 use Rattle.tree.specs.Root.{grow-moved}
@@ -29,7 +29,7 @@ use Rattle.tree.specs.Headed.{Rooted, headed-same}
 use Rattle.tree.specs.Whole.{Whole, whole-fresh, whole-used, whole-two, whole-grow, grown-used, whole-mended}
 use Rattle.tree.specs.Part.{childAt, CanPartChild, Parted}
 use Rattle.tree.specs.PartLaws.{many, parted-mended}
-use Rattle.tree.specs.Holding.{leaves, Holding, Stands, stands-then, stands-capacity, stands-ample, kept-stands, headed-stands}
+use Rattle.tree.specs.Holding.{leaves, Holding, Stands, stands-all, stands-then, stands-capacity, stands-ample, kept-stands, headed-stands}
 use Rattle.tree.specs.Tall.{tall}
 
 -- the table has room for another cell, and its root is full
@@ -44,6 +44,10 @@ pub record Grown (w : List ℤ) (minute : ℤ) (v : List ℤ) : Type 0 where
   pub stands : Stands (capacity w) w v
   pub same-leaves : SameWeights (leaves v) (leaves w)
   pub room : length (entriesAt v (root v)) < fullNode
+
+-- a root with room need not grow
+pub grown-none : {w : List ℤ} {minute : ℤ} → Holding w minute → length (entriesAt w (root w)) < fullNode → Grown w minute w
+grown-none {w} h room = record { holding = h; stands = stands-all (capacity w) w; same-leaves = same-refl; room = room }
 
 module _ {w : List ℤ} {minute : ℤ} (can : CanGrow w minute) where
   abbrev N : Nodes

@@ -28,3 +28,26 @@ fn grow(t: &mut [i32], minute: i32)
     set_root(&mut *t, above, height + 1);
     part_child(t, height, above, 0, minute);
 }
+
+// Makes room in the root.
+fn make_room(t: &mut [i32], minute: i32)
+    requires { ⌜ HasRoom (now t) minute ⌝ }
+    ensures { λ _. ⌜ Grown (now (t .entry)) minute (now (t .exit)) ⌝ }
+{
+    let root = place_at(t, 2);
+    if count_at(t, root) < FULL_NODE {
+        return;
+    }
+    grow(t, minute);
+}
+
+// Puts the cell into the tree.
+pub fn put_cell(t: &mut [i32], c: Cell, minute: i32)
+    requires { ⌜ (HasRoom (now t) minute) × (CellInRange c) ⌝ }
+    ensures { λ _. ⌜ PutCell (now (t .entry)) minute (leafEntry c) (now (t .exit)) ⌝ }
+{
+    make_room(&mut *t, minute);
+    let height = place_at(t, 3);
+    let root = place_at(t, 2);
+    put_in(t, height, root, c, minute);
+}
