@@ -25,5 +25,6 @@ pub mod Holding
 pub mod Tall
 pub mod Grow
 pub mod PutCell
+pub mod Mend
 pub mod SoundWhole
 pub mod Steps

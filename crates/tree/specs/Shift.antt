@@ -9,7 +9,7 @@ use Rattle.words.specs.Layout.{fullNode}
 use Rattle.node.specs.Entry.{Entry}
 use Rattle.node.specs.ChangeAt.{Changed}
 use Rattle.table.specs.Header.{capacity, nodesFor, entriesAt}
-use Rattle.tree.specs.Weights.{sum-append, sum-cons, sum-one, SameWeights, same-refl, same-trans, same-length}
+use Rattle.tree.specs.Weights.{sum-append, sum-cons, sum-one, SameWeights, same-refl, same-trans, same-swap, same-length}
 use Rattle.tree.specs.Places.{without, at-weights}
 use Rattle.tree.specs.Kept.{Ample, Kept, kept-all, kept-then, kept-capacity, changed-kept, changed-here, changed-others}
 
@@ -72,3 +72,21 @@ shift-one {w} {v} {u} {from} {k} {to} {e} can is out into =
       more = rw now (simp length-append refl);
       others = λ j p q. changed-others into j q ∙ changed-others out j p;
     }
+
+-- the entries of two nodes are dealt out anew between them
+pub record Dealt (cells : ℕ) (w : List ℤ) (a b : ℕ) (v : List ℤ) : Type 0 where
+  pub kept : Kept cells w v
+  pub all : SameWeights (entriesAt w a ++ entriesAt w b) (entriesAt v a ++ entriesAt v b)
+  pub others : (j : ℕ) → (j ≡ a → ⊥) → (j ≡ b → ⊥) → entriesAt v j ≡ entriesAt w j
+
+-- whichever gave some to the other
+module _ {cells : ℕ} {w v : List ℤ} {from to n : ℕ} (s : Shifted cells w from to n v) where
+  pub dealt-to : Dealt cells w from to v
+  dealt-to = record { kept = s .kept; all = s .all; others = s .others }
+
+  pub dealt-from : Dealt cells w to from v
+  dealt-from = record {
+    kept = s .kept;
+    all = same-trans (same-swap (entriesAt w to) (entriesAt w from)) (same-trans (s .all) (same-swap (entriesAt v from) (entriesAt v to)));
+    others = λ j p q. s .others j q p;
+  }
