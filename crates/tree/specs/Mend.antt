@@ -20,10 +20,10 @@ use Rattle.table.specs.Scan.{SoundIn}
 use Rattle.tree.specs.Weights.{sum-cons, sum-append, SameWeights, same-refl, same-sym, same-trans, same-as, same-append, same-swap, same-entries, visits, Once, is-self, visits-has, visits-child, visits-self, sound-part, sound-head}
 use Rattle.tree.specs.Places.{without, at-weights, set-weights, same-tail, TwoPlaces, two-places}
 use Rattle.tree.specs.Regroup.{Afresh, child-other}
-use Rattle.tree.specs.Used.{Free}
+use Rattle.tree.specs.Used.{Free, no-entries}
 use Rattle.tree.specs.EntryAfresh.{entryAbove, child-above, above-same, above-afresh, CanRefresh, sound-in-range}
 use Rattle.tree.specs.Kept.{Ample, Kept, ample-in, ample-low, kept-then, kept-capacity, kept-ample, changed-kept, changed-here, changed-others}
-use Rattle.tree.specs.Shift.{Dealt}
+use Rattle.tree.specs.Shift.{Shifted, CanShift, shifted-left, shifted-then, Dealt}
 use Rattle.tree.specs.TakeOut.{TakeOut, out-refresh, out-into, out-share}
 use Rattle.tree.specs.Part.{childAt}
 
@@ -230,3 +230,68 @@ module _ {w : List ℤ} {minute : ℤ} {h i k : ℕ} (can : CanMend w minute h i
                   out-into cells minute N₀ N (entriesAt x) h i has once sound p beside (others-at-last last) has′
                   (child-above (entriesAt v) (isLeaf h) minute sibling ∙ sibling-is) joined freed (sibling-afresh last sibling-filled);
             }
+
+-- r is another place than k, in any node that has the place k and another
+pub record Beside (k r : ℕ) : Type 0 where
+  pub other : r ≡ k → ⊥
+  pub within : (n : ℕ) → k < n → 2 ≤ n → r < n
+
+-- ---- two places of a node: the child at the first has too few entries
+pub record CanPair (w : List ℤ) (minute : ℤ) (h i k b : ℕ) : Type 0 where
+  pub can : CanMend w minute h i k
+  pub b-has : b < length (entriesAt w i)
+  pub b-other : b ≡ k → ⊥
+  pub few : length (entriesAt w (childAt (entriesAt w) i k)) < 3
+
+module _ {w : List ℤ} {minute : ℤ} {h i k b : ℕ} (pair : CanPair w minute h i k b) {child sibling : ℕ} (is : child ≡ childAt (entriesAt w) i k) (sibling-is : sibling ≡ childAt (entriesAt w) i b) where
+  two-left : length (entriesAt w child) ≡ 2
+  two-left = rw is (omega (arith, pair .few, pair .can .child-left))
+
+  different : sibling ≡ child → ⊥
+  different = siblings-apart (pair .can) is (pair .b-has) (pair .b-other) sibling-is
+
+  sibling-has : 3 ≤ length (entriesAt w sibling)
+  sibling-has = sibling-filled (pair .can) is (pair .b-has) (pair .b-other) sibling-is
+
+  -- the sibling can spare one
+  module _ (four : 4 ≤ length (entriesAt w sibling)) where
+    pub can-borrow : {n : ℕ} → n ≡ length (entriesAt w sibling) → CanShift w sibling (n - 1) child
+    can-borrow {n} e = record {
+      ample = pair .can .ample;
+      from-in = sibling-low (pair .can) is (pair .b-has) (pair .b-other) sibling-is;
+      to-in = child-low (pair .can) is;
+      apart = λ (q : child ≡ sibling). different (sym q);
+      has = omega arith;
+      room = omega (arith, two-left);
+    }
+
+    pub borrowed : {v : List ℤ} → Shifted (capacity w) w sibling child 1 v → (3 ≤ length (entriesAt v child)) × (3 ≤ length (entriesAt v sibling))
+    borrowed s = (omega (arith, s .more, two-left), omega (arith, shifted-left s))
+
+  -- it cannot
+  module _ (three : length (entriesAt w sibling) < 4) where
+    pub can-give : CanShift w child 1 sibling
+    can-give = record {
+      ample = pair .can .ample;
+      from-in = child-low (pair .can) is;
+      to-in = sibling-low (pair .can) is (pair .b-has) (pair .b-other) sibling-is;
+      apart = different;
+      has = omega (arith, two-left);
+      room = omega arith;
+    }
+
+    pub can-give-last : {v : List ℤ} → Shifted (capacity w) w child sibling 1 v → CanShift v child 0 sibling
+    can-give-last s = record {
+      ample = kept-ample (s .kept) (pair .can .ample);
+      from-in = rw (kept-capacity (s .kept)) (child-low (pair .can) is);
+      to-in = rw (kept-capacity (s .kept)) (sibling-low (pair .can) is (pair .b-has) (pair .b-other) sibling-is);
+      apart = different;
+      has = omega (arith, shifted-left s, two-left);
+      room = omega (arith, s .more);
+    }
+
+    pub given : {v u : List ℤ} → Shifted (capacity w) w child sibling 1 v → Shifted (capacity v) v child sibling 1 u → Shifted (capacity w) w child sibling 2 u
+    given s l = shifted-then s l refl
+
+    pub emptied : {u : List ℤ} → Shifted (capacity w) w child sibling 2 u → Free (entriesAt u) child × (3 ≤ length (entriesAt u sibling))
+    emptied {u} s = (no-entries (entriesAt u child) (omega (arith, shifted-left s, two-left)), omega (arith, s .more, sibling-has))

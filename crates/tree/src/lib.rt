@@ -3,6 +3,7 @@ pub mod afresh;
 pub mod at;
 pub mod free;
 pub mod header;
+pub mod mend;
 pub mod part;
 pub mod put;
 pub mod root;
