@@ -1,14 +1,14 @@
 -- What the crate `node` says of a node's words, said of the entries of node i of a table.
-use mathlib.Core.Path.{_≡_}
+use mathlib.Core.Path.{_≡_, sym, ap, _∙_}
 use mathlib.Core.List.{List, [], _∷_, _++_}
-use Prim.Native.Nat.{ℕ, _≤_, _<_}
+use Prim.Native.Nat.{ℕ, _+_, _≤_, _<_}
 use native.Mathlib.Omega.{arith}
 use lib.IntN.{ℤ}
-use lib.ListN.{length, getD, take}
+use lib.ListN.{length, getD, take, drop}
 use Rattle.words.specs.Layout.{entryWords, fullNode, InTable, nodeAt, setNode, entryAt}
 use Rattle.words.specs.Words.{withCount}
-use Rattle.node.specs.Entry.{Entry, countOf}
-use Rattle.node.specs.EntryLaws.{count-fits, length-entriesOf, entry-is}
+use Rattle.node.specs.Entry.{Entry, countOf, entriesOf}
+use Rattle.node.specs.EntryLaws.{count-fits, length-entriesOf, entry-is, entries-next}
 use Rattle.node.specs.Change.{appended, removed}
 use Rattle.node.specs.ChangeAt.{Changed}
 use Rattle.node.specs.ChangeAtLaws.{append-changes, remove-changes, keep-changes}
@@ -26,6 +26,10 @@ module _ (w : List ℤ) (i : ℕ) where
   pub entry-here : (k : ℕ) → k < length (entriesAt w i) → getD (entriesAt w i) k [] ≡ entryAt (nodeAt w i) k
   unfolding entriesAt
   entry-here k low = entry-is (nodeAt w i) k (omega (arith, length-at))
+
+  pub entries-left : (k : ℕ) → k < length (entriesAt w i) → drop k (entriesAt w i) ≡ getD (entriesAt w i) k [] ∷ drop (k + 1) (entriesAt w i)
+  unfolding entriesAt
+  entries-left k low = entries-next (nodeAt w i) k (omega (arith, length-at)) ∙ ap (λ e. e ∷ drop (k + 1) (entriesOf (nodeAt w i))) (sym (entry-here k low))
 
   module _ (fits : InTable w i) where
     pub removed-at : (k : ℕ) → k < length (entriesAt w i) → Changed w i (without k (entriesAt w i)) (setNode w i (removed (nodeAt w i) k))

@@ -26,5 +26,8 @@ pub mod Tall
 pub mod Grow
 pub mod PutCell
 pub mod Mend
+pub mod Goes
+pub mod GoesLaws
+pub mod Takes
 pub mod SoundWhole
 pub mod Steps

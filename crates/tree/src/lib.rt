@@ -8,3 +8,4 @@ pub mod part;
 pub mod put;
 pub mod root;
 pub mod shift;
+pub mod take;
