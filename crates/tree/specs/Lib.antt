@@ -29,5 +29,7 @@ pub mod Mend
 pub mod Goes
 pub mod GoesLaws
 pub mod Takes
+pub mod Settle
+pub mod Clear
 pub mod SoundWhole
 pub mod Steps

@@ -1,6 +1,7 @@
 // Putting in and taking out: how the tree of a table is changed.
 pub mod afresh;
 pub mod at;
+pub mod clear;
 pub mod free;
 pub mod header;
 pub mod mend;
