@@ -31,5 +31,6 @@ pub mod GoesLaws
 pub mod Takes
 pub mod Settle
 pub mod Clear
+pub mod Staying
 pub mod SoundWhole
 pub mod Steps

@@ -2,6 +2,7 @@
 pub mod afresh;
 pub mod at;
 pub mod clear;
+pub mod count;
 pub mod free;
 pub mod header;
 pub mod mend;

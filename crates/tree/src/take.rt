@@ -11,7 +11,7 @@ ghost use Rattle.tree.specs.Goes.{Goes};
 ghost use Rattle.tree.specs.Takes.{CanTake, Takes};
 
 // Whether the cell's life ended before the minute, or it is the one with this identifier.
-fn goes(c: Cell, minute: i32, id: i32) -> bool
+pub fn goes(c: Cell, minute: i32, id: i32) -> bool
     ensures { λ r. ⌜ Tells r (Goes minute id c) ⌝ }
 {
     if c.expiry.at < minute {
