@@ -32,5 +32,6 @@ pub mod Takes
 pub mod Settle
 pub mod Clear
 pub mod Staying
-pub mod SoundWhole
 pub mod Steps
+pub mod StayingLaws
+pub mod SoundWhole
