@@ -35,3 +35,4 @@ pub mod Staying
 pub mod Steps
 pub mod StayingLaws
 pub mod SoundWhole
+pub mod Stepping

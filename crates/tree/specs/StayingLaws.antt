@@ -50,7 +50,7 @@ many-stay minute id [] = sym (sum-none (stays minute id))
 many-stay minute id (e ∷ l) =
     omega (arith, length-put-if (decGoes minute id (cellOf e)) e (keep (stayTest minute id) l), many-stay minute id l, sum-cons (stays minute id) e l)
 
-length-map : {A B : Type 0} (f : A → B) (l : List A) → length (map f l) ≡ length l
+pub length-map : {A B : Type 0} (f : A → B) (l : List A) → length (map f l) ≡ length l
 length-map f [] = refl
 length-map f (x ∷ l) = ap suc (length-map f l)
 
