@@ -1,0 +1,5 @@
+pub mod NextLive
+pub mod NextLiveLaws
+pub mod Search
+pub mod Leafed
+pub mod LeafedLaws

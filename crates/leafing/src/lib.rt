@@ -1,0 +1,2 @@
+// Leafing through the live cells of a table, by rising identifier.
+pub mod search;
