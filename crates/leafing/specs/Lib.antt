@@ -1,5 +1,6 @@
 pub mod NextLive
 pub mod NextLiveLaws
+pub mod Leafing
 pub mod Search
 pub mod Leafed
 pub mod LeafedLaws

@@ -1,8 +1,9 @@
 -- The next live cell: that with the least identifier above the last one.
 use mathlib.Core.Path.{_≡_}
-use mathlib.Core.List.{List}
+use mathlib.Core.List.{List, [], _∷_}
 use lib.IntN.{ℤ}
 use lib.Signed.{_≤ℤ_, _<ℤ_}
+use Rattle.track.specs.Refusals.{Reason, _when_}
 use Rattle.track.specs.declared.cell.Cell.{Cell}
 use Rattle.table.specs.Sound.{Sound, Live}
 use Rattle.leafing.specs.declared.search.Next.{Next}
@@ -27,3 +28,12 @@ NextLive w last r = NextOf (Live w) last r
 pub record Steps (w : List ℤ) (last : ℤ) (r : Next) : Type 0 where
   pub sound : Sound w → NextLive w last r
   pub unsound : (Sound w → ⊥) → r ≡ None
+
+-- why a leafing is not opened
+abbrev pub openingReasons : List ℤ → List Reason
+openingReasons w = 1 when (Sound w → ⊥) ∷ []
+
+-- the identifier that a leafing goes on from
+abbrev pub lastAfter : Next → ℤ → ℤ
+lastAfter (One c) last = c .id
+lastAfter None last = last

@@ -5,13 +5,16 @@ use node::entry::count;
 use table::scan::node_at;
 use table::sound::is_sound;
 use track::cell::Cell;
+use track::refusal::Refusal;
 use words::place_at;
 use words::word;
+ghost use mathlib.Core.Path.{_≡_};
 ghost use mathlib.Core.List.{[], _∷_};
 ghost use lib.ListN.{drop};
+ghost use Rattle.track.specs.Refusals.{Gives};
 ghost use Rattle.table.specs.Header.{entriesAt};
 ghost use Rattle.table.specs.Sound.{Sound};
-ghost use Rattle.leafing.specs.NextLive.{NextLive, Steps};
+ghost use Rattle.leafing.specs.NextLive.{NextLive, Steps, openingReasons, lastAfter};
 ghost use Rattle.leafing.specs.Search.{Extends, Looks, CanLook};
 
 // The next cell, or none where no more are left.
@@ -79,4 +82,24 @@ pub fn next_live(t: &[i32], last: i32) -> Next
         return Next::None;
     }
     next_of_sound(t, last)
+}
+
+// The number of an opening over these words: 0, or the refusal's.
+pub fn opening(t: &[i32]) -> i32
+    ensures { λ r. ⌜ Gives (openingReasons (now (t .entry))) r ⌝ }
+{
+    if is_sound(t) {
+        return 0;
+    }
+    Refusal::NotSound.number()
+}
+
+// The identifier that a leafing goes on from after a step.
+pub fn last_after(r: Next, last: i32) -> i32
+    ensures { λ z. ⌜ z ≡ lastAfter r last ⌝ }
+{
+    match r {
+        Next::One(c) => c.id,
+        Next::None => last,
+    }
 }
