@@ -43,6 +43,17 @@ leafed-fixed {w} (one-more {c} {cells} p rest) (one-more {c = d} {cells = cells�
     let r = leafed-fixed rest (subst (λ (b : Cell). Leafed w (b .id) cells′) (sym e) rest′) in
     cc
 
+-- ---- a step takes the first cell off what is left
+pub leafed-first : {w : List ℤ} {last : ℤ} {rest : List Cell} {c : Cell} → Leafed w last rest → Steps w last (One c)
+    → (later : List Cell) × (rest ≡ c ∷ later) × Leafed w (c .id) later
+leafed-first {c} (no-more p) q = absurd (one-not-none (steps-fixed (One c) None q p))
+leafed-first {w} {c} (one-more {c = d} {cells} p rest) q =
+    let e = same-one (steps-fixed (One d) (One c) p q) in
+    (cells, ap {B = List Cell} (λ b. b ∷ cells) e, subst (λ (b : Cell). Leafed w (b .id) cells) e rest)
+
+pub leafed-none : {w : List ℤ} {last : ℤ} {rest : List Cell} → Leafed w last rest → Steps w last None → rest ≡ []
+leafed-none l p = leafed-fixed l (no-more p)
+
 -- ---- what it visits
 module _ {w : List ℤ} (sound : Sound w) where
   pub leafed-rises : {last : ℤ} {cells : List Cell} → Leafed w last cells → Rising _<ℤ_ (last ∷ map identifier cells)

@@ -4,3 +4,4 @@ pub mod Leafing
 pub mod Search
 pub mod Leafed
 pub mod LeafedLaws
+pub mod LiveCellsLaws
