@@ -3,7 +3,7 @@ use mathlib.Core.Path.{_≡_, refl, sym, ap, _∙_}
 use mathlib.Core.Logic.{inl, inr, _↔_}
 use mathlib.Core.List.{List, [], _∷_, _++_}
 use Prim.Native.Nat.{ℕ, _≤_, _<_}
-use native.Mathlib.Decide.{ℕ-discrete}
+use native.Mathlib.Decide.{ℕ-discrete, decLe}
 use native.Mathlib.Omega.{arith}
 use lib.IntN.{ℤ}
 use lib.ListN.{length, drop}
@@ -11,12 +11,12 @@ use Rattle.words.specs.Parts.{put}
 use Rattle.track.specs.Refusals.{First, first-as, first-fixed, refused-not-zero, number-fixes, not-zero}
 use Rattle.track.specs.declared.cell.Cell.{Cell}
 use Rattle.track.specs.declared.refusal.Refusal.the-variants.{NotSound, ShortBytes}
-use Rattle.table.specs.Header.{clock}
+use Rattle.table.specs.Header.{clock, greatestCapacity}
 use Rattle.table.specs.Sound.{Sound, Live}
 use Rattle.sheet.specs.Sheet.{totalFor, sheetOf}
 use Rattle.leafing.specs.Leafed.{LiveCells}
 use Rattle.leafing.specs.LeafedLaws.{leafed-live}
-use Rattle.leafing.specs.LiveCellsLaws.{live-same-list}
+use Rattle.leafing.specs.LiveCellsLaws.{live-same-list, live-few}
 use Rattle.writing.specs.Written.{writtenNumber, writtenTotal, LongerThan, writeReasons, Writes, WritesSheet}
 use Rattle.writing.specs.Passes.{Counted, Puts}
 use Rattle.writing.specs.declared.Written.{Written}
@@ -60,6 +60,20 @@ refused-total : (r : Written) → (writtenNumber r ≡ 0 → ⊥) → writtenTot
 refused-total (Total n) ne = absurd (ne refl)
 refused-total (Refused why) ne = refl
 
+-- ---- the total is small
+pub written-few : {w : List ℤ} {bytes : List ℕ} (r : Written) {bytes′ : List ℕ} → WritesSheet w bytes r bytes′ → writtenTotal r ≤ totalFor greatestCapacity
+written-few {w} {bytes} (Total n) p = by (decLe n (totalFor greatestCapacity))
+  where
+    not-unsound : First (writeReasons w bytes) 0 → (Sound w → ⊥) → ⊥
+    not-unsound (inl h) u = not-zero 0 (sym (h .1))
+    not-unsound (inr h) u = h .0 u
+
+    by : Dec (n ≤ totalFor greatestCapacity) → n ≤ totalFor greatestCapacity
+    by (yes le) = le
+    by (no more) = let a = p .accepted refl in absurd (not-unsound (p .refusal) (λ s. more (omega (arith, a .total-is, live-few s (a .live)))))
+written-few (Refused why) p = omega arith
+
+-- ---- two tables
 longer-as : {v w : List ℤ} {n : ℕ} → ((c : Cell) → Live v c → Live w c) → ((c : Cell) → Live w c → Live v c) → LongerThan n v → LongerThan n w
 longer-as to from l = record {
   cells = l .cells;
