@@ -1,7 +1,7 @@
 // The calls that hand out what a table holds: cell by cell, or as a sheet.
 use leafing::search::Next;
-use leafing::search::next_live;
 use leafing::search::opening;
+use leafing::step_from;
 use track::cell::Cell;
 use track::minute::Minute;
 use words::number;
@@ -78,7 +78,7 @@ fn is_given(next: Next) -> i32
 pub extern "C" fn bradawlet_next(table: &[i32], last: i32, numbers: &mut [i32; 6]) -> i32
     ensures { λ r. ⌜ NextGives (now (table .entry)) last r (now (numbers .exit)) ⌝ }
 {
-    let next = next_live(table, last);
+    let next = step_from(table, last);
     let c = next_cell(next);
     *numbers = [c.id, c.x, c.vx, c.y, c.vy, c.expiry.at];
     is_given(next)

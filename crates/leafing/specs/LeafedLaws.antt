@@ -2,26 +2,25 @@
 use mathlib.Core.Path.{_≡_, refl, sym, ap, subst}
 use mathlib.Core.Logic.{_⊎_, inl, inr, ⊎-elim}
 use mathlib.Core.Bool.{Bool, true, false}
-use mathlib.Core.List.{List, [], _∷_, _++_, map, List·Memᴰ·head, List·Memᴰ·tail, List·Memᴰ·cases-cons, List·Memᴰ·not-nil}
+use mathlib.Core.List.{List, [], _∷_, map, List·Memᴰ·head, List·Memᴰ·tail, List·Memᴰ·cases-cons, List·Memᴰ·not-nil}
 use Prim.Native.Nat.{ℕ, zero, suc, _+_, _≤_, _<_}
 use native.Mathlib.Nat.{not-suc-le-zero}
 use native.Mathlib.Omega.{arith}
 use lib.IntN.{ℤ, pos}
-use lib.ListN.{length}
 use lib.Signed.{_≤ℤ_, _<ℤ_, ltZ, ltZ-yes, <ℤ-≤ℤ-trans, <ℤ-irrefl, clashℤ}
-use Rattle.whole.specs.Lists.{_∈_, _⊆_, NoRepeat, no-repeat-fits}
-use Rattle.whole.specs.Order.{≤ℤ-trans, <ℤ-trans, <ℤ→≤ℤ, ≤ℤ-or-<ℤ, ≤ℤ-antisym, ltZ-true, ltZ-false}
-use Rattle.whole.specs.Rising.{Rising, rising-none, rising-one, rising-more, rising-tail, <ℤ-same}
+use Rattle.whole.specs.Lists.{_∈_}
+use Rattle.whole.specs.Order.{<ℤ-trans, <ℤ→≤ℤ, ≤ℤ-or-<ℤ, ≤ℤ-antisym, ltZ-true, ltZ-false}
+use Rattle.whole.specs.Rising.{Rising, rising-one, rising-more, rising-tail}
 use Rattle.whole.specs.Times.{once-if}
 use Rattle.track.specs.Life.{identifier, LivesAt}
 use Rattle.track.specs.declared.cell.Cell.{Cell}
 use Rattle.table.specs.Header.{clock}
 use Rattle.table.specs.Sound.{Sound, Live, held}
 use Rattle.table.specs.SoundBy.{held-in}
-use Rattle.leafing.specs.NextLive.{IsNext, NextOf, NextLive, Steps}
+use Rattle.leafing.specs.NextLive.{NextLive, Steps}
 use Rattle.leafing.specs.NextLiveLaws.{steps-sound, steps-fixed, live-same, one-not-none}
 use Rattle.leafing.specs.Leafed.{Leafed, no-more, one-more, LiveCells}
-use Rattle.leafing.specs.Search.{Alive, Best, Extends, next-as, none-yet, live-of, extends-none, extends-then, extends-passed, extends-first, extends-kept, extends-nearer}
+use Rattle.leafing.specs.Search.{Extends, none-yet, live-of, extends-none, extends-then, extends-passed, extends-first, extends-kept, extends-nearer}
 use Rattle.leafing.specs.declared.search.Next.{Next}
 use Rattle.leafing.specs.declared.search.Next.the-variants.{One, None}
 use Rattle.leafing.specs.declared.search.Sought.{Sought}

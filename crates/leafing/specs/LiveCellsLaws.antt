@@ -7,7 +7,7 @@ use native.Mathlib.Omega.{arith}
 use lib.IntN.{ℤ}
 use lib.ListN.{length}
 use lib.Signed.{_<ℤ_, <ℤ-irrefl}
-use Rattle.whole.specs.Lists.{_∈_, _⊆_, no-repeat-fits}
+use Rattle.whole.specs.Lists.{_⊆_, no-repeat-fits}
 use Rattle.whole.specs.Order.{<ℤ-trans}
 use Rattle.whole.specs.Rising.{Rising, rising-none, rising-one, rising-more, rising-no-repeat, rising-same}
 use Rattle.track.specs.Life.{identifier}

@@ -1,15 +1,15 @@
 -- The search for the next cell: what one cell more, and the cells beneath some entries, make of the best that was found until then.
 use mathlib.Core.Path.{_≡_, refl, sym, ap, _∙_, subst}
-use mathlib.Core.Logic.{_⊎_, inl, inr, ⊎-elim, _↔_}
+use mathlib.Core.Logic.{_⊎_, inl, inr, ⊎-elim}
 use mathlib.Core.List.{List, [], _∷_, _++_, map, map-append, flatMap, append-assoc, append-nil, List·Memᴰ·head, List·Memᴰ·not-nil, List·Memᴰ·append-cases, List·Memᴰ·eq-of-singleton, Memᴰ·append-left, Memᴰ·append-right}
 use Prim.Native.Nat.{ℕ, zero, suc, _+_, _-_, _≤_, _<_}
-use native.Mathlib.Numerals.{add-one, sub-one}
+use native.Mathlib.Numerals.{sub-one}
 use native.Mathlib.Omega.{arith}
 use lib.IntN.{ℤ}
 use lib.ListN.{length, drop, drop-of-length-le}
 use lib.Signed.{_≤ℤ_, _<ℤ_, ≤ℤ-refl}
 use Rattle.whole.specs.Lists.{_∈_}
-use Rattle.whole.specs.Order.{≤ℤ-trans, <ℤ→≤ℤ}
+use Rattle.whole.specs.Order.{≤ℤ-trans}
 use Rattle.words.specs.Layout.{InTable, nodeAt, entryAt}
 use Rattle.track.specs.Life.{LivesAt}
 use Rattle.track.specs.Refusals.{not-zero}
@@ -21,7 +21,7 @@ use Rattle.table.specs.Tree.{Nodes, EntrySound, TreeSound}
 use Rattle.table.specs.Scan.{leavesIn, leaves-in, leaves-cons}
 use Rattle.table.specs.ScanParts.{node-in-table}
 use Rattle.table.specs.Sound.{Sound, Live, held}
-use Rattle.leafing.specs.NextLive.{IsNext, NextOf, NextLive}
+use Rattle.leafing.specs.NextLive.{NextOf, NextLive}
 use Rattle.leafing.specs.declared.search.Next.{Next}
 use Rattle.leafing.specs.declared.search.Next.the-variants.{One, None}
 use Rattle.leafing.specs.declared.search.Sought.{Sought}

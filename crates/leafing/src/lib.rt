@@ -3,6 +3,7 @@ use crate::search::Next;
 use crate::search::last_after;
 use crate::search::next_live;
 use crate::search::opening;
+ghost use Rattle.leafing.specs.NextLive.{Steps};
 ghost use Rattle.leafing.specs.Leafing.{Opens, Moves};
 
 pub mod search;
@@ -33,4 +34,16 @@ pub fn next<'s, 'a>(l: &'s mut Leafing<'a>) -> Next
     let r = next_live(l.table, last);
     l.last = last_after(r, last);
     r
+}
+
+// The same for callers with plain numbers: a leafing at the identifier, moved on once.
+pub fn step_from(t: &[i32], last: i32) -> Next
+    ensures { λ r. ⌜ Steps (now (t .entry)) last r ⌝ }
+{
+    let mut l = Leafing {
+        table: t,
+        last,
+        number: 0,
+    };
+    next(&mut l)
 }

@@ -1,19 +1,16 @@
 -- What reading a sheet comes to: the sheet's cells are the live ones, and the answer is fixed.
-use mathlib.Core.Path.{_≡_, refl, sym, ap, _∙_}
-use mathlib.Core.Logic.{inl, inr, _↔_}
-use mathlib.Core.List.{List, [], _∷_}
-use Prim.Native.Nat.{ℕ, _≤_, _<_}
+use mathlib.Core.Path.{_≡_, refl, sym, ap}
+use mathlib.Core.Logic.{inr}
+use mathlib.Core.List.{List}
+use Prim.Native.Nat.{ℕ, _≤_}
 use native.Mathlib.Omega.{arith}
 use lib.IntN.{ℤ}
 use lib.ListN.{length}
-use Rattle.whole.specs.Lists.{_∈_}
 use Rattle.words.specs.Words.{natOf}
-use Rattle.track.specs.Refusals.{First, first-fixed, none-holds, refused-not-zero, number-fixes, not-zero}
-use Rattle.track.specs.declared.cell.Cell.{Cell}
-use Rattle.table.specs.Header.{IsCapacity, clock, wordsFor}
-use Rattle.table.specs.Sound.{Sound, Live, held}
-use Rattle.sheet.specs.Sheet.{mostCells, countOf, clockOf, cellsOf}
-use Rattle.sheet.specs.WellFormed.{HeaderSound, CellsSound, RecordsSound, SheetSound}
+use Rattle.track.specs.Refusals.{First, first-fixed, refused-not-zero, number-fixes}
+use Rattle.table.specs.Header.{IsCapacity, wordsFor}
+use Rattle.sheet.specs.Sheet.{mostCells, countOf, cellsOf}
+use Rattle.sheet.specs.WellFormed.{RecordsSound, SheetSound}
 use Rattle.leafing.specs.Leafed.{LiveCells}
 use Rattle.reading.specs.Reads.{readReasons, outcomeNumber, IsRead, ReadsSheet}
 use Rattle.reading.specs.declared.Outcome.{Outcome}

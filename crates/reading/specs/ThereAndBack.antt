@@ -11,15 +11,14 @@ use Rattle.track.specs.declared.cell.Cell.{Cell}
 use Rattle.table.specs.Header.{IsCapacity, clock, wordsFor}
 use Rattle.table.specs.Sound.{Sound, Live}
 use Rattle.sheet.specs.Bytes.{AreBytes}
-use Rattle.sheet.specs.Sheet.{mostCells, totalFor, sheetOf, countOf, clockOf, cellsOf}
+use Rattle.sheet.specs.Sheet.{mostCells, totalFor, sheetOf, countOf, cellsOf}
 use Rattle.sheet.specs.SheetLaws.{sheet-back, length-is, length-cellsFrom}
 use Rattle.sheet.specs.WellFormed.{SheetSound}
-use Rattle.leafing.specs.Leafed.{LiveCells}
 use Rattle.leafing.specs.LiveCellsLaws.{live-same-list}
 use Rattle.writing.specs.Written.{Writes}
-use Rattle.writing.specs.SheetWritten.{SheetOfTable, written-sheet}
-use Rattle.reading.specs.Reads.{IsRead, ReadsSheet}
-use Rattle.reading.specs.ReadsLaws.{CanRead, read-accepted, read-live}
+use Rattle.writing.specs.SheetWritten.{written-sheet}
+use Rattle.reading.specs.Reads.{IsRead}
+use Rattle.reading.specs.ReadsLaws.{CanRead, read-live}
 
 -- ---- a well-formed sheet that was read is written as it was, in the first bytes of any buffer that is long enough
 module _ {cells : ℤ} {w : List ℤ} {bytes : List ℕ} {v : List ℤ} (small : AreBytes bytes) (sheet : SheetSound mostCells bytes) (read : IsRead cells w bytes v) where

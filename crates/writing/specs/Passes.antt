@@ -1,12 +1,10 @@
 -- The two passes of the writing: the live cells are counted, then written one after the other. What holds after each turn of their loops.
 use mathlib.Core.Path.{_≡_, refl, sym, ap, _∙_, subst}
 use mathlib.Core.List.{List, [], _∷_, _++_, append-assoc, append-nil}
-use mathlib.Core.Logic.{inl, inr}
-use Prim.Native.Nat.{ℕ, suc, _+_, _^_, _≤_, _<_}
-use native.Mathlib.Numerals.{add-one}
+use Prim.Native.Nat.{ℕ, _+_, _≤_, _<_}
 use native.Mathlib.Omega.{arith}
 use lib.IntN.{ℤ, pos}
-use lib.ListN.{length, drop, length-append}
+use lib.ListN.{length, length-append}
 use Rattle.words.specs.Parts.{put}
 use Rattle.track.specs.declared.cell.Cell.{Cell}
 use Rattle.table.specs.Header.{clock, greatestCapacity}
@@ -15,7 +13,7 @@ use Rattle.sheet.specs.Sheet.{headerBytes, recordBytes, recordStart, totalFor, 
 use Rattle.sheet.specs.PutSheet.{SheetPut, header-put, record-put, sheet-put}
 use Rattle.leafing.specs.NextLive.{NextLive}
 use Rattle.leafing.specs.NextLiveLaws.{steps-sound}
-use Rattle.leafing.specs.Leafed.{Leafed, LiveCells}
+use Rattle.leafing.specs.Leafed.{Leafed}
 use Rattle.leafing.specs.LeafedLaws.{leafed-first, leafed-none, leafed-live, leafed-exists}
 use Rattle.leafing.specs.LiveCellsLaws.{live-few}
 use Rattle.leafing.specs.declared.search.Next.the-variants.{One, None}

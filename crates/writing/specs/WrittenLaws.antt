@@ -1,19 +1,19 @@
 -- The ways through the writing of a sheet, and that its answer is fixed.
 use mathlib.Core.Path.{_≡_, refl, sym, ap, _∙_}
 use mathlib.Core.Logic.{inl, inr, _↔_}
-use mathlib.Core.List.{List, [], _∷_, _++_}
+use mathlib.Core.List.{List}
 use Prim.Native.Nat.{ℕ, _≤_, _<_}
 use native.Mathlib.Decide.{ℕ-discrete, decLe}
 use native.Mathlib.Omega.{arith}
 use lib.IntN.{ℤ}
-use lib.ListN.{length, drop}
+use lib.ListN.{length}
 use Rattle.words.specs.Parts.{put}
 use Rattle.track.specs.Refusals.{First, first-as, first-fixed, refused-not-zero, number-fixes, not-zero}
 use Rattle.track.specs.declared.cell.Cell.{Cell}
 use Rattle.track.specs.declared.refusal.Refusal.the-variants.{NotSound, ShortBytes}
 use Rattle.table.specs.Header.{clock, greatestCapacity}
 use Rattle.table.specs.Sound.{Sound, Live}
-use Rattle.sheet.specs.Sheet.{totalFor, sheetOf}
+use Rattle.sheet.specs.Sheet.{totalFor}
 use Rattle.leafing.specs.Leafed.{LiveCells}
 use Rattle.leafing.specs.LeafedLaws.{leafed-live}
 use Rattle.leafing.specs.LiveCellsLaws.{live-same-list, live-few}

@@ -45,7 +45,6 @@ use denote.Triple.Spec.{Meets, tripleOf}
 use denote.Triple.Table.{entered, cited}
 use denote.Triple.Walked.{says, Stays, stay-ref, walkOf, goes-ref, Walks, ends-at, walked, walk-meets}
 use denote.Triple.Clauses.{ensured, lasts}
-use denote.Exit.{yes}
 use Rattle.leafing.specs.NextLive.{Steps, lastAfter}
 use Rattle.leafing.specs.declared.Leafing.{Leafing}
 use Rattle.leafing.specs.declared.search.Next.{Next}

@@ -1,6 +1,6 @@
 -- A walk of `open` by hand. `opening` is called on a copy of the slice, and a `Leafing` is made of the slice, 0 and what it returned.
-use mathlib.Core.Path.{_≡_, refl, ap}
-use Prim.Native.Nat.{ℕ, _<_, _^_}
+use mathlib.Core.Path.{refl, ap}
+use Prim.Native.Nat.{_<_, _^_}
 use mathlib.Core.List.{List, [], _∷_}
 use lib.Dec.{lit<}
 use lib.IntN.{ℤ, pos}

@@ -10,7 +10,7 @@ use Rattle.track.specs.Refusals.{not-zero}
 use Rattle.table.specs.Header.{IsCapacity, wordsFor}
 use Rattle.table.specs.HeaderLaws.{capacity-low}
 use Rattle.sheet.specs.Sheet.{mostCells, countOf}
-use Rattle.sheet.specs.WellFormed.{HeaderSound, RecordsSound}
+use Rattle.sheet.specs.WellFormed.{HeaderSound}
 use Rattle.reading.specs.ReadsLaws.{CanRead, can-accept}
 use borrow.Author.Needs.{needs}
 use Rattle.reading.proofs.judge.Statement.{statement}

@@ -6,8 +6,8 @@ use Rattle.sheet.specs.Sheet.{cellNumbers}
 use Rattle.calls.proofs.sheets.bradawlet_next.Statement.{statement}
 use Rattle.calls.proofs.sheets.bradawlet_next.Tie as tie
 
-next-live-requires : tie.Need-next-live-requires
-next-live-requires c κs = search needs
+step-from-requires : tie.Need-step-from-requires
+step-from-requires c κs = search needs
 
 next-cell-requires : tie.Need-next-cell-requires
 next-cell-requires c κs = search needs
@@ -18,7 +18,7 @@ is-given-requires c κs = search needs
 returns : tie.Need-returns
 returns c =
     let s = c .before .before .before .before .before in
-    let next = c .before .before .before .before .next-live in
+    let next = c .before .before .before .before .step-from in
     let cell = c .before .before .before .next-cell in
     let told = c .before .before .struct-told .given in
     record {
@@ -37,4 +37,4 @@ returns c =
     }
 
 pub bradawlet-next-spec : {M : Type 1} → statement M
-bradawlet-next-spec = tie.close (tie.spec next-live-requires next-cell-requires is-given-requires returns)
+bradawlet-next-spec = tie.close (tie.spec step-from-requires next-cell-requires is-given-requires returns)

@@ -1,5 +1,5 @@
 use mathlib.Core.Path.{_≡_}
-use lib.Signed.{_≤ℤ_, _<ℤ_, clashℤ}
+use lib.Signed.{_<ℤ_, clashℤ}
 use mir.Syntax.{w32}
 use mir.Val.{toZ, ofZ}
 use Rattle.whole.specs.Order.{ltZ-true, ltZ-false, leZ-true, leZ-false, <ℤ→≤ℤ}
