@@ -13,6 +13,7 @@ pub const TOO_EARLY: i32 = 5;
 pub const EXPIRED_AT_REPORT: i32 = 6;
 pub const BACKWARD: i32 = 7;
 pub const LIST_TOO_SHORT: i32 = 10;
+pub const BYTES_TOO_SHORT: i32 = 13;
 
 fn out_of_range(kind: Kind, question: &Question) -> bool {
     let numbers = question.numbers();
