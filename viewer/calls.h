@@ -20,9 +20,9 @@
 extern "C" {
 #endif
 
-/* The numbers that calls on tables give besides 4, 5 and 7 of enum
-   bradawlet_answer, which mean the same here with the table's clock in place of
-   the report's minute. */
+/* The numbers that calls on tables give besides 4, 5, 6 and 7 of enum
+   bradawlet_answer, which mean the same here; but 5 is given for what is before
+   the table's clock. */
 enum bradawlet_number {
     /* Done. */
     BRADAWLET_DONE = 0,
@@ -32,6 +32,10 @@ enum bradawlet_number {
     BRADAWLET_NO_SUCH_CAPACITY = 2,
     /* Refused: the table is too short for so many cells. */
     BRADAWLET_TABLE_TOO_SHORT = 3,
+    /* Refused: the cell that is to be dropped is not live. */
+    BRADAWLET_NOT_LIVE = 8,
+    /* Refused: as many other cells are live as the table is for. */
+    BRADAWLET_FULL = 9,
     /* Refused: there are more hits than the list has places. */
     BRADAWLET_LIST_TOO_SHORT = 10,
     /* Refused: the sheet is longer than the bytes. */
@@ -54,6 +58,62 @@ enum bradawlet_number {
  * touches none.
  */
 int32_t bradawlet_fresh(int32_t *table, size_t words, int32_t cells);
+
+/*
+ * Puts a cell in, in the place of a live one of the same identifier, and sets
+ * the table's clock to the report's minute.
+ *
+ *   table    the table; it may hold any words
+ *   words    how many words are lent
+ *   id       the cell's identifier                 1 to 2147483647
+ *   x, y     where it is at the report's minute    -100000 to 100000 each
+ *   vx, vy   how it moves from there               -512 to 512 each
+ *   minute   when it is reported                   0 to 1440
+ *   expiry   the last minute for which its track
+ *            can be trusted                        0 to 1440
+ *
+ * A cell is live as long as its expiry is not before the clock. The expired
+ * ones count as absent, whether or not the table still holds them: their room
+ * is used again, and no query finds them.
+ *
+ * The answer is BRADAWLET_DONE: then the reported cell is live, and so are all
+ * others that are not expired at its minute. Or it is a refusal, for the first
+ * of these reasons that holds:
+ *
+ *   BRADAWLET_UNSOUND             the words are not a sound table
+ *   BRADAWLET_OUT_OF_RANGE        an argument is outside its range
+ *   BRADAWLET_TOO_EARLY           minute is before the table's clock
+ *   BRADAWLET_EXPIRED_AT_REPORT   expiry is before minute
+ *   BRADAWLET_FULL                as many cells as the table is for, this one
+ *                                 not counted, are live at the minute
+ *
+ * Words past the number that the table needs are not touched, and a refusal
+ * touches none.
+ */
+int32_t bradawlet_report(int32_t *table, size_t words, int32_t id, int32_t x, int32_t y,
+                         int32_t vx, int32_t vy, int32_t minute, int32_t expiry);
+
+/*
+ * Takes a live cell out, and sets the table's clock to the drop's minute.
+ *
+ *   table    the table; it may hold any words
+ *   words    how many words are lent
+ *   id       the cell's identifier                 1 to 2147483647
+ *   minute   when it is dropped                    0 to 1440
+ *
+ * The answer is BRADAWLET_DONE: then all other cells that are not expired at
+ * the minute are live. Or it is a refusal, for the first of these reasons that
+ * holds:
+ *
+ *   BRADAWLET_UNSOUND        the words are not a sound table
+ *   BRADAWLET_OUT_OF_RANGE   an argument is outside its range
+ *   BRADAWLET_TOO_EARLY      minute is before the table's clock
+ *   BRADAWLET_NOT_LIVE       no cell of this identifier is live at the minute
+ *
+ * Words past the number that the table needs are not touched, and a refusal
+ * touches none.
+ */
+int32_t bradawlet_drop(int32_t *table, size_t words, int32_t id, int32_t minute);
 
 /*
  * Lists the cells that meet a window.
