@@ -245,11 +245,8 @@ fn runs_agree(library: &Library, capacity: i32, random: &mut Random) -> bool {
         meant.extend(["leaf parted", "leaves joined", "root grew", "root gave way"]);
         meant.push("some entries afresh, some left alone");
     }
-    if capacity >= 16 {
-        meant.push("cell borrowed");
-    }
     if capacity >= 40 {
-        meant.push("three levels or more");
+        meant.extend(["cell borrowed", "three levels or more"]);
     }
     family.holds(&meant, 10)
 }
