@@ -11,6 +11,12 @@ use Rattle.feed.specs.Held.{Held, KeepsByte}
 pub held-none : (buffer : List ℕ) → Held buffer 0 []
 held-none buffer = record { inside = omega arith; is = sym (take-nil (length buffer)) }
 
+-- any first bytes of a buffer may be a line
+pub held-some : (buffer : List ℕ) (n : ℕ) → n ≤ length buffer → Held buffer n (take n buffer)
+held-some buffer n h =
+    let long = length-take-le n buffer h in
+    record { inside = h; is = sym (take-all (length buffer) (take n buffer) (omega (arith, long))) }
+
 module _ {buffer : List ℕ} {n : ℕ} {line : List ℕ} (h : Held buffer n line) where
   -- a buffer that is not full has the whole line
   pub held-whole : n < length buffer → take n buffer ≡ line
