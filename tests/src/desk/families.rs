@@ -46,6 +46,13 @@ pub const FAMILIES: &[Family] = &[
         meant: &["ok", "hits", "hits 256", "no 8", "no 9"],
     },
     Family {
+        name: "a full table that expires",
+        sessions: 8,
+        lines: 4_000,
+        next: full_and_expiring,
+        meant: &["ok", "hits", "no 8", "no 9"],
+    },
+    Family {
         name: "much expiry",
         sessions: 16,
         lines: 3_000,
@@ -72,6 +79,7 @@ const SMALL: World = World { identifiers: 14, reach: 8, speed: 3, life: 10, turn
 const PLANE: World =
     World { identifiers: 180, reach: POSITION, speed: VELOCITY, life: 300, turns_a_minute: 30 };
 const CROWD: World = World { identifiers: 300, reach: 3_000, speed: 40, life: 1_400, turns_a_minute: 400 };
+const RUSH: World = World { identifiers: 400, reach: 3_000, speed: 40, life: 9, turns_a_minute: 500 };
 const BRIEF: World = World { identifiers: 90, reach: 300, speed: 20, life: 3, turns_a_minute: 3 };
 
 fn dense(random: &mut Random, desk: &Desk) -> Vec<u8> {
@@ -109,6 +117,17 @@ fn kept_full(random: &mut Random, desk: &Desk) -> Vec<u8> {
         14 => CROWD.drop(random, desk),
         15 => everywhere(random, desk),
         16 | 17 => within(random, desk, 3_000, 60),
+        _ => aimed(random, desk),
+    }
+    .bytes()
+}
+
+/// Each new minute comes to a table that was full, and makes room in it.
+fn full_and_expiring(random: &mut Random, desk: &Desk) -> Vec<u8> {
+    match random.between(0, 19) {
+        0..=16 => Line::Cell(RUSH.report(random, desk)),
+        17 => RUSH.drop(random, desk),
+        18 => within(random, desk, 3_000, 6),
         _ => aimed(random, desk),
     }
     .bytes()
