@@ -1,16 +1,14 @@
--- What spelling a query's answer asks for, and gives.
-use mathlib.Core.Path.{_≡_, refl, sym, ap, _∙_}
-use mathlib.Core.List.{List, _++_}
-use Prim.Native.Nat.{ℕ, _+_, _*_, _≤_, _<_}
+-- What spelling a query's answer asks of the list.
+use mathlib.Core.Path.{refl, ap}
+use mathlib.Core.List.{List}
+use Prim.Native.Nat.{_≤_}
 use native.Mathlib.Omega.{arith}
 use lib.IntN.{ℤ}
 use lib.ListN.{length, drop, length-append}
 use Rattle.track.specs.declared.query.Query.{Query}
-use Rattle.query.specs.Queried.{answerHits, Queried}
+use Rattle.query.specs.Queried.{Queried}
 use Rattle.query.specs.declared.answer.Answer.{Answer}
 use Rattle.query.specs.declared.answer.Answer.the-variants.{Listed, TooMany, Refused}
-use Rattle.spelling.specs.Answers.{Written, Spelt}
-use Rattle.answering.specs.Answered.{listPlaces, longestAnswer, AnswerLine, QueryLine}
 
 -- the list has the hits of an accepted query
 abbrev pub InList : Answer → List ℤ → Type 0
@@ -25,7 +23,3 @@ hits-in-list {list} {r = Listed f} q =
     omega (arith, l .hit-count, ap length (l .written), length-append (l .ids) (drop n list))
 hits-in-list {r = TooMany n} q = tt
 hits-in-list {r = Refused x} q = tt
-
--- a line of one kind is one of another
-pub written-as : {P Q : List ℕ → Type 0} {before after : List ℕ} {r : ℕ} → ((s : List ℕ) → P s → Q s) → Written P before after r → Written Q before after r
-written-as turned p = record { line = p .line; spelt = turned (p .line) (p .spelt); long = p .long; fits = p .fits; is = p .is }

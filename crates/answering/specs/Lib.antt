@@ -1,2 +1,10 @@
 pub mod Answered
+pub mod AnsweredLaws
+pub mod Alike
+pub mod AlikeLaws
+pub mod Writing
 pub mod Asking
+pub mod Stepping
+pub mod Lining
+pub mod Served
+pub mod Serving
