@@ -1,10 +1,9 @@
 -- A parting of a full node's entries, as a mark for each: the marked ones go to another node, the others stay.
 use mathlib.Core.Path.{_≡_}
-use mathlib.Core.Bool.{Bool, true, false, not}
+use mathlib.Core.Bool.{Bool, true, false}
 use mathlib.Core.List.{List, [], _∷_}
 use Prim.Native.Nat.{ℕ, suc, _+_, _≤_, _<_}
 use lib.ListN.{length, getD}
-use Rattle.whole.specs.Lists.{put-if}
 use Rattle.words.specs.Layout.{fullNode}
 
 -- how many marks are set
@@ -12,17 +11,6 @@ unfoldable pub marked : List Bool → ℕ
 marked [] = 0
 marked (true ∷ marks) = suc (marked marks)
 marked (false ∷ marks) = marked marks
-
--- the entries that go, and those that stay, in the order that they had
-unfoldable pub going : {A : Type 0} → List Bool → List A → List A
-going [] es = []
-going (mark ∷ marks) [] = []
-going (mark ∷ marks) (e ∷ es) = put-if mark e (going marks es)
-
-unfoldable pub staying : {A : Type 0} → List Bool → List A → List A
-staying [] es = []
-staying (mark ∷ marks) [] = []
-staying (mark ∷ marks) (e ∷ es) = put-if (not mark) e (staying marks es)
 
 -- the entries that each half gets at least
 abbrev pub fewest : ℕ
@@ -33,12 +21,6 @@ pub record Parts (marks : List Bool) : Type 0 where
   pub all : length marks ≡ fullNode
   pub go : fewest ≤ marked marks
   pub stay : marked marks + fewest ≤ fullNode
-
--- what that comes to for the entries es
-pub record Halves {A : Type 0} (marks : List Bool) (es : List A) : Type 0 where
-  pub go : fewest ≤ length (going marks es)
-  pub stay : fewest ≤ length (staying marks es)
-  pub all : length (going marks es) + length (staying marks es) ≡ length es
 
 -- ---- what the search for the next mark keeps
 -- of the first k places, `best` has no mark; where it is none of them, they all have one

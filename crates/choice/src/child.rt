@@ -2,6 +2,8 @@
 use crate::area::Cover;
 use node::entry::bounds;
 use node::entry::count;
+ghost use mathlib.Core.Path.{_≡_};
+ghost use mathlib.Core.Logic.{_⊎_};
 ghost use Prim.Native.Nat.{_<_};
 ghost use Rattle.words.specs.Layout.{fullNode};
 ghost use Rattle.node.specs.Entry.{countOf};
@@ -53,4 +55,14 @@ pub fn best_child(node: &[i32], b: [[i32; 4]; 2], minute: i32) -> usize
         k += 1;
     }
     best
+}
+
+// Which of two entries takes in these bounds at the lesser cost, the first where they are equal.
+pub fn better_child(node: &[i32], j: usize, k: usize, b: [[i32; 4]; 2], minute: i32) -> usize
+    requires { ⌜ (j < fullNode) × (k < fullNode) ⌝ }
+    ensures { λ r. ⌜ (r ≡ j) ⊎ (r ≡ k) ⌝ }
+{
+    let own = cost_of(node, j, b, minute);
+    let other = cost_of(node, k, b, minute);
+    if other.less_than(own) { k } else { j }
 }

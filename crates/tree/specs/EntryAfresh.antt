@@ -47,13 +47,19 @@ module _ (N : Nodes) (leaf : Bool) (minute : ℤ) (child : ℕ) where
   unfolding entryAbove natOf
   child-above = ap natOf (child-inner child _ minute)
 
+-- it looks at the entries of the child only
+pub above-same : (N N′ : Nodes) (leaf : Bool) (minute : ℤ) (child : ℕ) → N′ child ≡ N child → entryAbove N′ leaf minute child ≡ entryAbove N leaf minute child
+unfolding entryAbove
+above-same N N′ leaf minute child same = rw same
+
 -- the entries of a sound node are in range at the clock
 pub sound-in-range : (N : Nodes) (cells : ℕ) (clock : ℤ) (h i : ℕ) → IsMinute clock → TreeSound N cells clock h i → InRangeAt (isLeaf h) clock (N i)
 unfolding TreeSound
 sound-in-range N cells clock zero i is sound = cells-in-range clock sound
 sound-in-range N cells clock (suc h) i is sound = stamped-in-range is (λ e m. sound e m .0 .stamped) (λ e m. edges-at N cells clock h i sound m)
 
-is-node-at : {cells n : ℕ} → n < nodesFor cells → IsNode cells (pos n)
+-- the number of a node of the table, as a word
+pub is-node-at : {cells n : ℕ} → n < nodesFor cells → IsNode cells (pos n)
 is-node-at {cells} {n} low = record { from = record { le = le→leb 0 n (omega arith) }; to = record { lt = lt→ltb n (nodesFor cells) low } }
 
 -- above a node of the table that is filled it is afresh

@@ -1,16 +1,16 @@
 -- What every change of a tree keeps of the table's words: how many they are, the header, those past the table's need; and counts stay counts.
 use mathlib.Core.Path.{_≡_, refl, ap, _∙_}
 use mathlib.Core.List.{List}
-use Prim.Native.Nat.{ℕ, _≤_, _<_}
+use Prim.Native.Nat.{ℕ, _^_, _≤_, _<_}
 use native.Mathlib.Decide.{ℕ-discrete}
 use native.Mathlib.Omega.{arith}
 use lib.IntN.{ℤ}
 use lib.ListN.{length}
-use Rattle.words.specs.Layout.{header, nodeAt}
-use Rattle.words.specs.Words.{wordAt}
+use Rattle.words.specs.Layout.{header, InTable, nodeAt}
+use Rattle.words.specs.Words.{wordAt, natOf}
 use Rattle.node.specs.Entry.{Entry, entriesOf, countWord, IsCount}
 use Rattle.node.specs.ChangeAt.{Changed}
-use Rattle.table.specs.Header.{nodesFor, wordsFor, entriesAt}
+use Rattle.table.specs.Header.{capacity, greatestCapacity, nodesFor, wordsFor, entriesAt}
 
 -- each node of a table of so many cells has a count
 abbrev pub Counted : ℕ → List ℤ → Type 0
@@ -32,6 +32,25 @@ kept-then k l = record {
   same-rest = λ at h. l .same-rest at h ∙ k .same-rest at h;
   still-counted = λ c. l .still-counted (k .still-counted c);
 }
+
+-- the capacity stands in the header
+pub kept-capacity : {cells : ℕ} {w v : List ℤ} → Kept cells w v → capacity v ≡ capacity w
+kept-capacity k = ap natOf (k .same-header 0 (omega arith))
+
+-- ---- words enough for their capacity, which is not too great
+pub record Ample (w : List ℤ) : Type 0 where
+  pub few : capacity w ≤ greatestCapacity
+  pub long : wordsFor (capacity w) ≤ length w
+
+pub ample-in : {w : List ℤ} → Ample w → (i : ℕ) → i < nodesFor (capacity w) → InTable w i
+ample-in a i low = omega (arith, a .long)
+
+-- a node's number fits a word
+pub ample-low : {w : List ℤ} → Ample w → (i : ℕ) → i < nodesFor (capacity w) → i < 2 ^ 31
+ample-low a i low = omega (arith, a .few)
+
+pub kept-ample : {cells : ℕ} {w v : List ℤ} → Kept cells w v → Ample w → Ample v
+kept-ample k a = record { few = rw (kept-capacity k) (a .few); long = rw (kept-capacity k, k .same-length) (a .long) }
 
 -- one node of the table changed
 module _ {w w′ : List ℤ} {i : ℕ} {es : List Entry} (c : Changed w i es w′) where

@@ -1,12 +1,13 @@
 -- A leaf's entries rewritten.
 use mathlib.Core.Path.{_≡_}
-use Prim.Native.Nat.{ℕ, zero, _+_}
+use Prim.Native.Nat.{ℕ, zero, suc, _+_}
 use native.Mathlib.Omega.{arith}
 use lib.IntN.{ℤ}
 use Rattle.whole.specs.Lists.{_∈_}
 use Rattle.track.specs.Small.{CellInRange}
-use Rattle.node.specs.Entry.{Entry, cellOf}
+use Rattle.node.specs.Entry.{Entry, cellOf, childOf}
 use Rattle.table.specs.Tree.{Nodes, leavesOf, TreeSound}
+use Rattle.table.specs.Reach.{flat-in}
 use Rattle.tree.specs.Weights.{sumOver, is-other, visits-node, visits-leaf}
 use Rattle.tree.specs.Moved.{Moved, noNode}
 
@@ -25,3 +26,11 @@ module _ (N N′ : Nodes) (i : ℕ) where
 pub leaf-sound : (N : Nodes) (cells : ℕ) (clock : ℤ) (i : ℕ) → ((e : Entry) → e ∈ N i → CellInRange (cellOf e)) → TreeSound N cells clock zero i
 unfolding TreeSound
 leaf-sound N cells clock i each = each
+
+-- every cell below a sound node is in range
+pub leaf-in-range : (N : Nodes) (cells : ℕ) (clock : ℤ) (h i : ℕ) → TreeSound N cells clock h i → (x : Entry) → x ∈ leavesOf N h i → CellInRange (cellOf x)
+unfolding TreeSound leavesOf
+leaf-in-range N cells clock zero i sound x m = sound x m
+leaf-in-range N cells clock (suc h) i sound x m =
+    let r = flat-in (λ e. leavesOf N h (childOf e)) (N i) m in
+    leaf-in-range N cells clock h (childOf (r .0)) (sound (r .0) (r .1) .1) x (r .2)

@@ -88,6 +88,10 @@ unfolding inUse
 use-some [] some = absurd (not-suc-le-zero some)
 use-some (e ∷ es) some = refl
 
+pub no-entries : (es : List Entry) → length es ≡ 0 → es ≡ []
+no-entries [] none = refl
+no-entries (e ∷ es) none = absurd (omega arith)
+
 -- where not all nodes below n are in use, one of them is free
 pub free-one : (N : Nodes) (n : ℕ) → used N n < n → (j : ℕ) × (j < n) × Free N j
 unfolding sumBelow

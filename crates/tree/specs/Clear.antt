@@ -1,0 +1,109 @@
+-- The cells that go cleared out of a table.
+use mathlib.Core.Path.{_≡_, refl, sym, ap, subst}
+use mathlib.Core.Bool.{Bool, true, false}
+use mathlib.Core.List.{List, [], _∷_, _++_, append-assoc, List·Memᴰ·not-nil, List·Memᴰ·append-cases, List·Memᴰ·eq-of-singleton}
+use mathlib.Core.Logic.{⊎-elim}
+use Prim.Native.Nat.{ℕ, _<_}
+use native.Mathlib.Omega.{arith}
+use lib.IntN.{ℤ}
+use lib.ListN.{length}
+use Rattle.whole.specs.Lists.{_∈_}
+use Rattle.words.specs.Words.{natOf}
+use Rattle.node.specs.Entry.{Entry, cellOf}
+use Rattle.table.specs.Header.{capacity, root, height, entriesAt}
+use Rattle.table.specs.Scan.{leaves-in}
+use Rattle.tree.specs.Weights.{SameWeights, same-refl, same-trans, same-sym, same-append, same-length}
+use Rattle.tree.specs.Moved.{moved-out}
+use Rattle.tree.specs.Whole.{whole-mended}
+use Rattle.tree.specs.Holding.{leaves, Holding, Stands, stands-all, stands-then, stands-capacity, stands-ample, kept-stands}
+use Rattle.tree.specs.Goes.{Goes}
+use Rattle.tree.specs.Takes.{CanTake, Taken, Takes}
+use Rattle.tree.specs.Settle.{Loose, Settled}
+
+-- none of the leaves' entries goes
+abbrev pub AllStay : List ℤ → ℤ → ℤ → Type 0
+AllStay w minute id = (x : Entry) → x ∈ leaves w → Goes minute id (cellOf x) → ⊥
+
+-- some that go have been taken out
+pub record Clearing (w : List ℤ) (minute id : ℤ) (v : List ℤ) : Type 0 where
+  pub holding : Holding v minute
+  pub stands : Stands (capacity w) w v
+  pub gone : List Entry
+  pub all-go : (x : Entry) → x ∈ gone → Goes minute id (cellOf x)
+  pub parted : SameWeights (leaves w) (gone ++ leaves v)
+
+-- all that go
+pub record Cleared (w : List ℤ) (minute id : ℤ) (v : List ℤ) : Type 0 where
+  pub clearing : Clearing w minute id v
+  pub all-stay : AllStay v minute id
+
+-- one that goes, if there is any: r tells it
+pub record ClearsOne (w : List ℤ) (minute id : ℤ) (r : Bool) (v : List ℤ) : Type 0 where
+  pub none : r ≡ false → (v ≡ w) × AllStay w minute id
+  pub one : r ≡ true → Clearing w minute id v × (length (leaves v) < length (leaves w))
+
+pub clearing-none : {w : List ℤ} {minute id : ℤ} → Holding w minute → Clearing w minute id w
+clearing-none {w} h = record { holding = h; stands = stands-all (capacity w) w; gone = []; all-go = λ x m. absurd (List·Memᴰ·not-nil m); parted = same-refl }
+
+pub clearing-then : {w v u : List ℤ} {minute id : ℤ} → Clearing w minute id v → Clearing v minute id u → Clearing w minute id u
+clearing-then {u} a b = record {
+  holding = b .holding;
+  stands = stands-then (a .stands) (rw (stands-capacity (a .stands)) at (b .stands));
+  gone = a .gone ++ b .gone;
+  all-go = λ x m. ⊎-elim (a .all-go x) (b .all-go x) (List·Memᴰ·append-cases (a .gone) m);
+  parted = rw (append-assoc (a .gone) (b .gone) (leaves u)) (same-trans (a .parted) (same-append {l = a .gone} same-refl (b .parted)));
+}
+
+-- ---- from the root
+pub can-take-root : {w : List ℤ} {minute : ℤ} → Holding w minute → CanTake w minute (height w) (root w)
+can-take-root h = record { ample = h .ample; is-minute = h .is-minute; node-in = h .whole .root-in; once = h .whole .once; sound = h .whole .sound; inner = h .root-filled }
+
+root-stays : {w : List ℤ} {minute id : ℤ} {v : List ℤ} → Takes w minute id (height w) (root w) 0 false v → (v ≡ w) × AllStay w minute id
+root-stays {w} t = let n = t .none refl in (n .0, λ x m goes. n .1 x (rw (leaves-in (entriesAt w) (height w) (root w)) at m) goes)
+
+true-not-false : {A : Type 0} → true ≡ false → A
+true-not-false e = absurd (let z : _≡_ {A = ℕ} 1 0 = cc in omega arith)
+
+pub clears-none : {w : List ℤ} {minute id : ℤ} {r : Bool} {v : List ℤ} → Takes w minute id (height w) (root w) 0 r v → r ≡ false → ClearsOne w minute id false v
+clears-none {w} {minute} {id} {v} t none = record {
+  none = λ e. root-stays (subst (λ (b : Bool). Takes w minute id (height w) (root w) 0 b v) none t);
+  one = λ e. true-not-false (sym e);
+}
+
+pub clears-one : {w : List ℤ} {minute id : ℤ} {v : List ℤ} → Clearing w minute id v × (length (leaves v) < length (leaves w)) → ClearsOne w minute id true v
+clears-one c = record { none = λ e. true-not-false e; one = λ e. c }
+
+module _ {w : List ℤ} {minute id : ℤ} {v : List ℤ} (h : Holding w minute) (t : Taken w minute id (height w) (root w) v) where
+  stands : Stands (capacity w) w v
+  stands = kept-stands (t .kept)
+
+  root-same : root v ≡ root w
+  root-same = ap natOf (t .kept .same-header 2 (omega arith))
+
+  height-same : height v ≡ height w
+  height-same = ap natOf (t .kept .same-header 3 (omega arith))
+
+  pub taken-loose : Loose v minute
+  taken-loose = record {
+    ample = stands-ample stands (h .ample);
+    is-minute = h .is-minute;
+    root-in = rw (stands-capacity stands, t .kept .same-header 2 (omega arith)) (h .root-in);
+    height-in = rw (t .kept .same-header 3 (omega arith)) (h .height-in);
+    whole = rw (stands-capacity stands, root-same, height-same) (whole-mended (h .whole) (t .out .mended) (t .out .are-free));
+    some = λ inner. rw root-same (omega (arith, t .out .one-fewer, h .root-filled (rw height-same at inner)));
+  }
+
+  taken-leaves : SameWeights (leaves w) (t .entry ∷ leaves v)
+  taken-leaves = rw (root-same, height-same) (moved-out (t .out .mended .moved))
+
+  pub cleared-one : {u : List ℤ} → Settled v minute u → Clearing w minute id u × (length (leaves u) < length (leaves w))
+  cleared-one {u} s = (
+    record {
+      holding = s .holding;
+      stands = stands-then stands (rw (stands-capacity stands) at (s .stands));
+      gone = t .entry ∷ [];
+      all-go = λ x m. subst (λ (y : Entry). Goes minute id (cellOf y)) (sym (List·Memᴰ·eq-of-singleton m)) (t .goes);
+      parted = same-trans taken-leaves (same-append {l = t .entry ∷ []} same-refl (same-sym (s .same-leaves)));
+    },
+    omega (arith, same-length taken-leaves, same-length (s .same-leaves)),
+  )

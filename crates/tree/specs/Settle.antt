@@ -1,0 +1,122 @@
+-- The root after a cell was taken out: an inner root with one entry gives way to its child.
+use mathlib.Core.Path.{_≡_, refl, sym, ap, _∙_}
+use mathlib.Core.List.{List, [], _∷_}
+use Prim.Native.Nat.{ℕ, zero, suc, _-_, _^_, _≤_, _<_}
+use native.Mathlib.Omega.{arith}
+use lib.IntN.{ℤ, pos}
+use lib.ListN.{length, getD, take}
+use lib.Dec.{le→leb}
+use lib.Signed.{_≤ℤ_}
+use Rattle.words.specs.Layout.{header, InTable}
+use Rattle.words.specs.Words.{natOf}
+use Rattle.words.specs.WordLaws.{natOf-pos}
+use Rattle.track.specs.Numbers.{IsMinute}
+use Rattle.node.specs.Entry.{Entry, childOf}
+use Rattle.node.specs.ChangeAt.{Changed}
+use Rattle.table.specs.Header.{capacity, root, rootWord, height, heightWord, nodesFor, IsNode, entriesAt}
+use Rattle.table.specs.Tree.{leavesOf}
+use Rattle.tree.specs.Weights.{SameWeights, same-refl, same-as, sound-has, sound-head}
+use Rattle.tree.specs.Moved.{moved-same}
+use Rattle.tree.specs.Regroup.{child-other}
+use Rattle.tree.specs.Root.{way-moved}
+use Rattle.tree.specs.EntryAfresh.{is-node-at}
+use Rattle.tree.specs.Kept.{Ample, ample-in, ample-low, changed-kept, changed-here, changed-others}
+use Rattle.tree.specs.Headed.{Rooted, headed-same}
+use Rattle.tree.specs.Whole.{Whole, whole-way}
+use Rattle.tree.specs.Part.{childAt}
+use Rattle.tree.specs.Holding.{leaves, Holding, Stands, stands-all, stands-then, stands-capacity, stands-ample, kept-stands, headed-stands}
+
+-- as `Holding`, but that an inner root may have one entry only
+pub record Loose (w : List ℤ) (minute : ℤ) : Type 0 where
+  pub ample : Ample w
+  pub is-minute : IsMinute minute
+  pub root-in : IsNode (capacity w) (rootWord w)
+  pub height-in : pos 0 ≤ℤ heightWord w
+  pub whole : Whole (capacity w) minute (entriesAt w) (height w) (root w)
+  pub some : 0 < height w → 1 ≤ length (entriesAt w (root w))
+
+-- so it is at some minute
+pub record IsLoose (w : List ℤ) : Type 0 where
+  pub minute : ℤ
+  pub loose : Loose w minute
+
+pub record Settled (w : List ℤ) (minute : ℤ) (v : List ℤ) : Type 0 where
+  pub holding : Holding v minute
+  pub stands : Stands (capacity w) w v
+  pub same-leaves : SameWeights (leaves v) (leaves w)
+
+-- at whatever minute it is
+abbrev pub Settles : List ℤ → List ℤ → Type 0
+Settles w v = (minute : ℤ) → Loose w minute → Settled w minute v
+
+-- a leaf, and a root with two entries, stay
+pub settled-none : {w : List ℤ} → (0 < height w → 2 ≤ length (entriesAt w (root w))) → Settles w w
+settled-none {w} filled minute l = record {
+  holding = record { ample = l .ample; is-minute = l .is-minute; root-in = l .root-in; height-in = l .height-in; whole = l .whole; root-filled = filled };
+  stands = stands-all (capacity w) w;
+  same-leaves = same-refl;
+}
+
+only-one : (es : List Entry) → length es ≡ 1 → es ≡ getD es 0 [] ∷ []
+only-one [] few = absurd (omega arith)
+only-one (e ∷ []) few = refl
+only-one (e ∷ f ∷ es) few = absurd (omega arith)
+
+-- any other gives way
+module _ {w : List ℤ} {minute : ℤ} (l : Loose w minute) {h : ℕ} (tall : height w ≡ suc h) (few : length (entriesAt w (root w)) ≡ 1) {child : ℕ} (is : child ≡ childAt (entriesAt w) (root w) 0) where
+  abbrev e : Entry
+  e = getD (entriesAt w (root w)) 0 []
+
+  only : entriesAt w (root w) ≡ e ∷ []
+  only = only-one (entriesAt w (root w)) few
+
+  before : Whole (capacity w) minute (entriesAt w) (suc h) (root w)
+  before = rw tall at (l .whole)
+
+  pub root-in-table : InTable w (root w)
+  root-in-table = ample-in (l .ample) (root w) (l .whole .root-in)
+
+  child-filled : 3 ≤ length (entriesAt w (childOf e))
+  child-filled = sound-head (entriesAt w) (capacity w) minute h e [] (sound-has (entriesAt w) (capacity w) minute (suc h) (root w) (same-as only) (before .sound)) .0 .filled
+
+  module _ {v : List ℤ} (freed : Changed w (root w) (take 0 (entriesAt w (root w))) v) where
+    after : Whole (capacity w) minute (entriesAt v) h (childOf e)
+    after = whole-way before only (changed-here freed) (changed-others freed)
+
+    pub long : header ≤ length v
+    long = rw (freed .same-length) (omega (arith, l .ample .long))
+
+    pub child-low : child < 2 ^ 31
+    child-low = rw is (ample-low (l .ample) (childOf e) (after .root-in))
+
+    pub settled-way : {u : List ℤ} → Rooted v child h u → Settled w minute u
+    settled-way {u} set-root = record {
+      holding = record {
+        ample = stands-ample stands (l .ample);
+        is-minute = l .is-minute;
+        root-in = rw (stands-capacity stands, set-root .root-is, is) (is-node-at (after .root-in));
+        height-in = rw (set-root .height-is) (record { le = le→leb 0 h (omega arith) });
+        whole = rw (stands-capacity stands, same, root-is, height-is) after;
+        root-filled = λ inner. rw (same, root-is, child-same) (omega (arith, child-filled));
+      };
+      stands = stands;
+      same-leaves = rw (same, root-is, height-is, tall) (moved-same (way-moved (entriesAt w) (entriesAt v) h (root w) only (before .once) (changed-others freed)));
+    }
+      where
+        same : entriesAt u ≡ entriesAt v
+        same = headed-same (set-root .headed)
+
+        stands : Stands (capacity w) w u
+        stands = stands-then (kept-stands (changed-kept freed (l .whole .root-in))) (headed-stands (set-root .headed) (set-root .same-capacity))
+
+        root-is : root u ≡ childOf e
+        root-is = ap natOf (set-root .root-is) ∙ natOf-pos child ∙ is
+
+        height-is : height u ≡ h
+        height-is = ap natOf (set-root .height-is) ∙ natOf-pos h
+
+        child-same : entriesAt v (childOf e) ≡ entriesAt w (childOf e)
+        child-same = changed-others freed (childOf e) apart
+          where
+            apart : childOf e ≡ root w → ⊥
+            apart q = child-other (entriesAt w) (entriesAt w) (capacity w) minute h (root w) (before .once) (same-as only) q

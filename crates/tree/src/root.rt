@@ -1,0 +1,53 @@
+// The root of a table's tree: it grows, a cell is put in below it, and it gives way.
+use crate::afresh::entry_above;
+use crate::at::count_at;
+use crate::at::nodes_of;
+use crate::free::free_node;
+use crate::header::set_root;
+use crate::part::part_child;
+use crate::put::put_in;
+use node::change_at::append_at;
+use track::cell::Cell;
+use words::FULL_NODE;
+use words::place_at;
+ghost use Rattle.track.specs.Small.{CellInRange};
+ghost use Rattle.node.specs.Made.{leafEntry};
+ghost use Rattle.tree.specs.Grow.{CanGrow, Grown};
+ghost use Rattle.tree.specs.PutCell.{HasRoom, PutCell};
+
+// Puts a new root above the full one, which is parted.
+fn grow(t: &mut [i32], minute: i32)
+    requires { ⌜ CanGrow (now t) minute ⌝ }
+    ensures { λ _. ⌜ Grown (now (t .entry)) minute (now (t .exit)) ⌝ }
+{
+    let root = place_at(t, 2);
+    let height = place_at(t, 3);
+    let above = free_node(t, nodes_of(t));
+    let e = entry_above(t, root, height == 0, minute);
+    append_at(&mut *t, above, e);
+    set_root(&mut *t, above, height + 1);
+    part_child(t, height, above, 0, minute);
+}
+
+// Makes room in the root.
+fn make_room(t: &mut [i32], minute: i32)
+    requires { ⌜ HasRoom (now t) minute ⌝ }
+    ensures { λ _. ⌜ Grown (now (t .entry)) minute (now (t .exit)) ⌝ }
+{
+    let root = place_at(t, 2);
+    if count_at(t, root) < FULL_NODE {
+        return;
+    }
+    grow(t, minute);
+}
+
+// Puts the cell into the tree.
+pub fn put_cell(t: &mut [i32], c: Cell, minute: i32)
+    requires { ⌜ (HasRoom (now t) minute) × (CellInRange c) ⌝ }
+    ensures { λ _. ⌜ PutCell (now (t .entry)) minute (leafEntry c) (now (t .exit)) ⌝ }
+{
+    make_room(&mut *t, minute);
+    let height = place_at(t, 3);
+    let root = place_at(t, 2);
+    put_in(t, height, root, c, minute);
+}
