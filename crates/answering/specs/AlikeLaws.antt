@@ -67,6 +67,9 @@ alike-sym a = record {
   live = λ c. (a .live c .1, a .live c .0);
 }
 
+pub alike-itself : {w : List ℤ} → Sound w → Alike w w
+alike-itself s = record { sound = s; sound′ = s; capacity-is = refl; clock-is = refl; live = λ c. always }
+
 -- ---- what holds of one holds of the other, from the clock on
 module _ {w v : List ℤ} (a : Alike w v) where
   held-too : (minute : ℤ) {c : Cell} → clock w ≤ℤ minute → LivesAt minute c → c ∈ held w → c ∈ held v
@@ -261,3 +264,43 @@ fresh-alike f g = record {
   clock-is = f .clock-is ∙ sym (g .clock-is);
   live = λ c. (λ l. absurd (List·Memᴰ·not-nil (rw (f .none-held) at (l .is-held))), λ l. absurd (List·Memᴰ·not-nil (rw (g .none-held) at (l .is-held))));
 }
+
+-- ---- two accepted reports on different cells in one minute can change places
+-- what each leaves, with k and l the cells that are kept
+abbrev Left : List ℤ → ℤ → Cell → Cell → Type 0
+Left w minute k c = (c ≡ k) ⊎ Stays w minute (k .id) c
+
+module _ {w u x u′ x′ : List ℤ} {minute : ℤ} {k l : Cell} (other : k .id ≡ l .id → ⊥) (s : Step w u minute (Left w minute k)) (t : Step u x minute (Left u minute l))
+    (s′ : Step w u′ minute (Left w minute l)) (t′ : Step u′ x′ minute (Left u′ minute k)) where
+  -- what is live after the other report stays when this one comes
+  then-stays : {c : Cell} → Left w minute l c → (c .id ≡ k .id → ⊥) → Live x′ c
+  then-stays {c} left differs =
+      let live = s′ .live c .1 left in
+      t′ .live c .1 (inr (record { is-held = live .is-held; lives = rw (s′ .clock-is) at (live .in-life); other = differs }))
+
+  one-way : (c : Cell) → Live x c → Live x′ c
+  one-way c live = by (t .live c .0 live)
+    where
+      by : Left u minute l c → Live x′ c
+      by (inl e) = then-stays (inl e) (λ f. other (sym f ∙ ap (λ (d : Cell). d .id) e))
+      by (inr stays) = before (s .live c .0 (record { is-held = stays .is-held; in-life = rw (s .clock-is) (stays .lives) }))
+        where
+          before : Left w minute k c → Live x′ c
+          before (inl e) = t′ .live c .1 (inl e)
+          before (inr h) = then-stays (inr (record { is-held = h .is-held; lives = h .lives; other = stays .other })) (h .other)
+
+places-changed : {w u x u′ x′ : List ℤ} {minute : ℤ} {k l : Cell} → (k .id ≡ l .id → ⊥) → Step w u minute (Left w minute k) → Step u x minute (Left u minute l)
+    → Step w u′ minute (Left w minute l) → Step u′ x′ minute (Left u′ minute k) → Alike x x′
+places-changed other s t s′ t′ = record {
+  sound = t .sound;
+  sound′ = t′ .sound;
+  capacity-is = t .capacity-is ∙ s .capacity-is ∙ sym (t′ .capacity-is ∙ s′ .capacity-is);
+  clock-is = t .clock-is ∙ sym (t′ .clock-is);
+  live = λ c. (one-way other s t s′ t′ c, one-way (λ e. other (sym e)) s′ t′ s t c);
+}
+
+pub reports-change-places : {w u v u′ v′ : List ℤ} {minute i x y vx vy expiry j x′ y′ vx′ vy′ expiry′ : ℤ} → (i ≡ j → ⊥)
+    → ReportSteps w i x y vx vy minute expiry 0 u → ReportSteps u j x′ y′ vx′ vy′ minute expiry′ 0 v
+    → ReportSteps w j x′ y′ vx′ vy′ minute expiry′ 0 u′ → ReportSteps u′ i x y vx vy minute expiry 0 v′ → Alike v v′
+reports-change-places {minute} {i} {x} {y} {vx} {vy} {expiry} {j} {x′} {y′} {vx′} {vy′} {expiry′} other p q p′ q′ =
+    places-changed {k = keptCell i x y vx vy minute expiry} {l = keptCell j x′ y′ vx′ vy′ minute expiry′} other (p .accepted refl) (q .accepted refl) (p′ .accepted refl) (q′ .accepted refl)

@@ -29,7 +29,7 @@ use Rattle.feed.specs.Parting.{Parted, lastLine}
 use Rattle.feed.specs.PartingLaws.{parted-once}
 use Rattle.answering.specs.Answered.{longestLine, listPlaces, AnswerLine, QueryLine, OutcomeLine, StepLine, IsLine, FormLine, Answered, Session, no-line, and-line}
 use Rattle.answering.specs.Alike.{Alike}
-use Rattle.answering.specs.AlikeLaws.{query-number, ids-alike, report-alike, drop-alike, fresh-alike}
+use Rattle.answering.specs.AlikeLaws.{query-number, ids-alike, report-alike, drop-alike, fresh-alike, alike-itself}
 
 -- ---- what a line is
 same-reading : {line : List ℕ} {f g : Line} → Reads line f → Reads line g → f ≡ g
@@ -158,6 +158,10 @@ session-alike {v′} alike (and-line {lines} {line} s x) (and-line {v} {lines = 
     let before = session-alike alike s t (both .0) in
     let last = answered-alike (before .1) x (subst (λ (l : List ℕ). Answered v l v′ answer) (sym (both .1)) y) in
     (ap₂ _++_ (before .0) (last .0), last .1)
+
+-- a sound table is sound after any lines
+pub session-sound : {w w′ : List ℤ} {ls : List (List ℕ)} {o : List ℕ} → Sound w → Session w ls w′ o → Sound w′
+session-sound s t = session-alike (alike-itself s) t t refl .1 .sound
 
 -- so whole runs from fresh tables print the same on the same input
 pub run-fixed : {cells : ℤ} {u u′ w v w′ v′ : List ℤ} {input r s o p : List ℕ} {ls ms : List (List ℕ)} → IsFresh cells u w → IsFresh cells u′ v
