@@ -1,5 +1,6 @@
 /*
- * Makes fresh tables and asks them, from C: every number that these calls give.
+ * Makes fresh tables, asks them, writes their sheets and leafs through them, from
+ * C: every number that these calls give.
  * Prints a line for each check that fails, and last the counts.
  */
 #include "calls.h"
@@ -184,6 +185,82 @@ static void check_queries(void)
     free(table);
 }
 
+/* Writes the sheet into so many bytes: it must answer this, and write the sheet or nothing. */
+static void check_write(const char *name, const int32_t *table, size_t words, size_t length,
+                        int32_t number, const uint8_t *sheet, size_t total)
+{
+    size_t written = number == BRADAWLET_DONE ? total : 0;
+    int32_t told = RUBBISH;
+    uint8_t *bytes = malloc(length > 0 ? length : 1);
+    if (bytes == NULL)
+        abort();
+    memset(bytes, 0xa5, length);
+    check(name, bradawlet_write(table, words, bytes, length, &told) == number);
+    check(name, told == (int32_t)written);
+    check(name, memcmp(bytes, sheet, written) == 0);
+    for (size_t i = written; i < length; i++)
+        if (bytes[i] != 0xa5) {
+            check(name, false);
+            break;
+        }
+    free(bytes);
+}
+
+static void check_next(const char *name, const int32_t *table, size_t words, int32_t last,
+                       int32_t answer, const int32_t cell[6])
+{
+    int32_t *numbers = rubbish(6);
+    check(name, bradawlet_next(table, words, last, numbers) == answer);
+    check(name, memcmp(numbers, cell, 6 * sizeof *cell) == 0);
+    free(numbers);
+}
+
+static void check_sheets(void)
+{
+    static const int32_t late[6] = {INT32_MAX, -837280, 0, 1, -512, 1440},
+                         expired[6] = {5, 0, 0, 0, 0, 9}, early[6] = {2, 1, 3, -1, 0, 10},
+                         none[6] = {0, 0, 0, 0, 0, 0};
+    static const uint8_t empty[BRADAWLET_SHEET(0)] = {0, 0, 0, 0, 16, 0, 0, 0,
+                                                      0, 0, 0, 0, 16, 0, 0, 0};
+    /* The header, and two lines for each record. -837280 is 0xfff33960, and -512 is 0xfffffe00. */
+    static const uint8_t two[BRADAWLET_SHEET(2)] = {
+        2,    0,    0,    0,    16,   0,    0,    0,    10,   0,    0,    0,    64,   0,    0,    0,
+        2,    0,    0,    0,    1,    0,    0,    0,    3,    0,    0,    0,
+        0xff, 0xff, 0xff, 0xff, 0,    0,    0,    0,    10,   0,    0,    0,
+        0xff, 0xff, 0xff, 0x7f, 0x60, 0x39, 0xf3, 0xff, 0,    0,    0,    0,
+        1,    0,    0,    0,    0,    0xfe, 0xff, 0xff, 0xa0, 5,    0,    0};
+    const size_t words = BRADAWLET_WORDS(CELLS) + EXTRA;
+    int32_t *table = rubbish(words);
+
+    check("1: rubbish not opened", bradawlet_open(table, words) == BRADAWLET_UNSOUND);
+    check_next("a step over rubbish", table, words, 0, 0, none);
+    check_write("1: rubbish", table, words, 16, BRADAWLET_UNSOUND, empty, 0);
+    check_write("1 before 13", table, words, 0, BRADAWLET_UNSOUND, empty, 0);
+    check_write("1: no words", table, 0, 16, BRADAWLET_UNSOUND, empty, 0);
+
+    check("a fresh table", bradawlet_fresh(table, words, CELLS) == BRADAWLET_DONE);
+    check("a fresh table opened", bradawlet_open(table, words) == BRADAWLET_DONE);
+    check_next("no cell in a fresh table", table, words, 0, 0, none);
+    for (size_t length = 0; length < 20; length++)
+        check_write("a fresh table's sheet", table, words, length,
+                    length < 16 ? BRADAWLET_BYTES_TOO_SHORT : BRADAWLET_DONE, empty, 16);
+
+    put(table, late);
+    put(table, expired);
+    put(table, early);
+    table[1] = 10;
+    for (size_t length = 0; length < 80; length++)
+        check_write("two live cells", table, words, length,
+                    length < 64 ? BRADAWLET_BYTES_TOO_SHORT : BRADAWLET_DONE, two, 64);
+    check_next("the first cell", table, words, 0, 1, early);
+    check_next("the first from below 0", table, words, INT32_MIN, 1, early);
+    check_next("the second cell", table, words, 2, 1, late);
+    check_next("past the expired cell", table, words, 5, 1, late);
+    check_next("the last cell once more", table, words, INT32_MAX - 1, 1, late);
+    check_next("no more", table, words, INT32_MAX, 0, none);
+    free(table);
+}
+
 int main(void)
 {
     /* A failure is printed even if the sanitizer ends the program after it. */
@@ -204,6 +281,7 @@ int main(void)
     check_fresh(INT32_MIN, 112, BRADAWLET_NO_SUCH_CAPACITY);
     check_fresh(INT32_MAX, 12400, BRADAWLET_NO_SUCH_CAPACITY);
     check_queries();
+    check_sheets();
     printf("%u passed, %u failed\n", passed, failed);
     return failed != 0;
 }

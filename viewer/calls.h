@@ -6,8 +6,8 @@
  * nothing and takes any numbers and any words at all: what it cannot answer it
  * refuses by number.
  *
- * Table and list must be memory of as many words as is said, apart from each
- * other and from the numbers that are given back.
+ * Table, list and bytes must be memory of as many words or bytes as is said,
+ * apart from each other and from the numbers that are given back.
  */
 #ifndef BRADAWLET_CALLS_H
 #define BRADAWLET_CALLS_H
@@ -33,7 +33,9 @@ enum bradawlet_number {
     /* Refused: the table is too short for so many cells. */
     BRADAWLET_TABLE_TOO_SHORT = 3,
     /* Refused: there are more hits than the list has places. */
-    BRADAWLET_LIST_TOO_SHORT = 10
+    BRADAWLET_LIST_TOO_SHORT = 10,
+    /* Refused: the sheet is longer than the bytes. */
+    BRADAWLET_BYTES_TOO_SHORT = 13
 };
 
 /* The words that a table for so many cells needs, from 1 to 256. */
@@ -111,6 +113,45 @@ int32_t bradawlet_moving(const int32_t *table, size_t words, int32_t *list, size
                          int32_t start, int32_t end, int32_t xlow, int32_t xhigh, int32_t ylow,
                          int32_t yhigh, int32_t xlow2, int32_t xhigh2, int32_t ylow2,
                          int32_t yhigh2, int32_t *hits, int32_t *opened);
+
+/* The bytes of a sheet with so many cells, from 0 to 256. */
+#define BRADAWLET_SHEET(cells) ((size_t)16 + (size_t)24 * (size_t)(cells))
+
+/*
+ * Writes the sheet of a table: its clock and its live cells, those whose expiry
+ * is not before the clock, by rising identifier.
+ *
+ *   table    the table, which is not changed; it may hold any words
+ *   words    how many words are lent
+ *   bytes    where the sheet goes
+ *   length   how many bytes there is room for
+ *   total    gives how many bytes the sheet has
+ *
+ * The answer is BRADAWLET_DONE, and then the first bytes, as many as the total,
+ * are the sheet; the others are not touched. Or it is a refusal, the first of
+ * BRADAWLET_UNSOUND, if the words are not a sound table, and
+ * BRADAWLET_BYTES_TOO_SHORT, if the sheet is longer than the bytes: then no
+ * byte is touched and the total is 0. BRADAWLET_SHEET(256) bytes are enough for
+ * any table.
+ */
+int32_t bradawlet_write(const int32_t *table, size_t words, uint8_t *bytes, size_t length,
+                        int32_t *total);
+
+/*
+ * Leafs through the live cells of a table by rising identifier.
+ *
+ * bradawlet_open says whether the table can be leafed through: BRADAWLET_DONE,
+ * or BRADAWLET_UNSOUND if the words are not a sound table.
+ *
+ * bradawlet_next gives the live cell with the least identifier above last, as
+ * the six numbers of a sheet's record: identifier, x, x velocity, y, y velocity
+ * and expiry, with x and y as they were at minute 0. The answer is 1; go on
+ * with last set to the identifier that was given. Or it is 0 and the six
+ * numbers are 0: no more are left, or the words are not a sound table. To begin
+ * with the first cell, last is 0; it may be any number.
+ */
+int32_t bradawlet_open(const int32_t *table, size_t words);
+int32_t bradawlet_next(const int32_t *table, size_t words, int32_t last, int32_t numbers[6]);
 
 /*
  * Says whether a reported cell meets a moving query: a rectangle that goes

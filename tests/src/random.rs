@@ -69,4 +69,8 @@ impl Random {
     pub fn rubbish_words(&mut self, count: usize) -> Vec<i32> {
         (0..count).map(|_| self.rubbish()).collect()
     }
+
+    pub fn rubbish_bytes(&mut self, count: usize) -> Vec<u8> {
+        (0..count).map(|_| self.between(0, 255) as u8).collect()
+    }
 }

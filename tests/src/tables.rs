@@ -9,4 +9,5 @@ pub mod library;
 pub mod queries;
 pub mod reading;
 pub mod scan;
+pub mod sheet;
 pub mod worlds;

@@ -1,3 +1,5 @@
 pub mod Moving
 pub mod Tables
 pub mod TablesLaws
+pub mod Sheets
+pub mod SheetsLaws

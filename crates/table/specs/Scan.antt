@@ -112,7 +112,7 @@ module _ (N : Nodes) (C : ℕ → Type 0) (cells : ℕ) (clock : ℤ) where
 
 -- ---- one entry more
 module _ (N : Nodes) where
-  leaves-cons : (h : ℕ) (e : Entry) (es : List Entry) → leavesIn N (suc h) (e ∷ es) ≡ leavesIn N h (N (childOf e)) ++ leavesIn N (suc h) es
+  pub leaves-cons : (h : ℕ) (e : Entry) (es : List Entry) → leavesIn N (suc h) (e ∷ es) ≡ leavesIn N h (N (childOf e)) ++ leavesIn N (suc h) es
   unfolding leavesIn flatMap
   leaves-cons h e es = ap (λ (l : List Entry). l ++ flatMap (λ d. leavesOf N h (childOf d)) es) (leaves-in N h (childOf e))
 

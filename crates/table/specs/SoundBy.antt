@@ -21,6 +21,7 @@ use Rattle.words.specs.WordLaws.{pos-natOf}
 use Rattle.track.specs.Life.{identifier}
 use Rattle.track.specs.Numbers.{IsMinute}
 use Rattle.track.specs.Small.{CellInRange}
+use Rattle.track.specs.declared.cell.Cell.{Cell}
 use Rattle.node.specs.Entry.{Entry, cellOf, childOf, countWord, IsCount}
 use Rattle.table.specs.Header.{capacityWord, capacity, clock, rootWord, root, heightWord, height, IsCapacity, nodesFor, wordsFor, IsNode, entriesAt, greatestCapacity}
 use Rattle.table.specs.HeaderLaws.{capacity-low}
@@ -63,6 +64,15 @@ module _ (N : Nodes) (cells : ℕ) (clock : ℤ) where
   cells-in (suc h) es s e i =
       let f = flat-in (λ d. leavesOf N h (childOf d)) es i in
       cells-in h (N (childOf (f .0))) (sound-in N cells clock h (childOf (f .0)) (s (f .0) (f .1) .1)) e (rw (leaves-in N h (childOf (f .0))) at (f .2))
+
+-- the cells of a sound table keep their ranges
+pub held-in : {w : List ℤ} → Sound w → {c : Cell} → c ∈ held w → CellInRange c
+held-in {w} s m = let e = Memᴰ·of-map cellOf (leavesOf (entriesAt w) (height w) (root w)) m in subst CellInRange (e .2) (of-leaf (e .0) (e .1))
+  where
+    of-leaf : (e : Entry) → e ∈ leavesOf (entriesAt w) (height w) (root w) → CellInRange (cellOf e)
+    of-leaf e i =
+        cells-in (entriesAt w) (capacity w) (clock w) (height w) (entriesAt w (root w)) (sound-in (entriesAt w) (capacity w) (clock w) (height w) (root w) (s .tree)) e
+        (rw (leaves-in (entriesAt w) (height w) (root w)) at i)
 
 -- ---- identifiers as keys
 abbrev idOf : Entry → ℤ

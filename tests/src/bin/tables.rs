@@ -2,7 +2,8 @@
 
 use outside::question::{Kind, QUERY_NUMBERS};
 use outside::tables::families;
-use outside::tables::library::{Answer, Library};
+use outside::tables::library::{Answer, Library, Written};
+use outside::tables::sheet::RECORD_NUMBERS;
 use std::process::ExitCode;
 
 #[link(name = "calls", kind = "static")]
@@ -42,6 +43,18 @@ extern "C" {
         hits: *mut i32,
         opened: *mut i32,
     ) -> i32;
+
+    fn bradawlet_write(
+        table: *const i32,
+        words: usize,
+        bytes: *mut u8,
+        length: usize,
+        total: *mut i32,
+    ) -> i32;
+
+    fn bradawlet_open(table: *const i32, words: usize) -> i32;
+
+    fn bradawlet_next(table: *const i32, words: usize, last: i32, numbers: *mut i32) -> i32;
 }
 
 fn fresh(table: &mut [i32], cells: i32) -> i32 {
@@ -95,6 +108,26 @@ fn query(kind: Kind, table: &mut [i32], list: &mut [i32], numbers: &[i32; QUERY_
     Answer { number, hits, opened }
 }
 
+fn write(table: &mut [i32], bytes: &mut [u8]) -> Written {
+    // No call answers it, so that it must be written.
+    let mut total = -77;
+    let (words, length) = (table.len(), bytes.len());
+    // Table and bytes are ours, apart from each other, and lent with their lengths.
+    let number =
+        unsafe { bradawlet_write(table.as_mut_ptr(), words, bytes.as_mut_ptr(), length, &mut total) };
+    Written { number, total }
+}
+
+fn open(table: &mut [i32]) -> i32 {
+    // The words are ours, and lent with their number.
+    unsafe { bradawlet_open(table.as_mut_ptr(), table.len()) }
+}
+
+fn next(table: &mut [i32], last: i32, numbers: &mut [i32; RECORD_NUMBERS]) -> i32 {
+    // Both are ours, apart from each other; the second has room for a record's numbers.
+    unsafe { bradawlet_next(table.as_mut_ptr(), table.len(), last, numbers.as_mut_ptr()) }
+}
+
 fn main() -> ExitCode {
-    families::run(&Library { fresh, query }).report()
+    families::run(&Library { fresh, query, write, open, next }).report()
 }

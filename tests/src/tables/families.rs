@@ -4,8 +4,10 @@
 mod answered;
 mod damaged;
 mod fresh;
+mod leafed;
 mod rubbish;
 mod sound;
+mod written;
 
 use super::library::Library;
 use crate::tally::Tally;
@@ -18,6 +20,8 @@ pub fn run(library: &Library) -> Tally {
     rubbish::run(library, &mut tally);
     answered::run(library, &mut tally);
     fresh::run(library, &mut tally);
+    written::run(library, &mut tally);
+    leafed::run(library, &mut tally);
     tally
 }
 

@@ -55,7 +55,7 @@ fn capacity_agrees(library: &Library, capacity: i32, kind: Kind, random: &mut Ra
 fn ask(
     library: &Library,
     table: &Table,
-    lent: &mut Lent,
+    lent: &mut Lent<i32>,
     asked: &Asked,
     random: &mut Random,
     family: &mut Family,

@@ -1,0 +1,24 @@
+use borrow.Author.Needs.{needs}
+use Rattle.whole.specs.Within.{word-back}
+use Rattle.writing.specs.WrittenLaws.{written-few}
+use Rattle.calls.proofs.sheets.bradawlet_write.Statement.{statement}
+use Rattle.calls.proofs.sheets.bradawlet_write.Tie as tie
+
+write-sheet-requires : tie.Need-write-sheet-requires
+write-sheet-requires c κs = search needs
+
+written-in-numbers-requires : tie.Need-written-in-numbers-requires
+written-in-numbers-requires c κs = record { small = written-few _ (c .before .before .before .write-sheet .ensures) }
+
+same-length : tie.Need-same-length
+same-length c = search needs
+
+returns : tie.Need-returns
+returns c = record {
+  written = c .before .before .before .before .write-sheet .result;
+  writes = c .before .before .before .before .write-sheet .ensures;
+  in-numbers = rw (word-back (c .written-in-numbers .result) (c .written-in-numbers .ok)) (c .written-in-numbers .ensures);
+}
+
+pub bradawlet-write-spec : {M : Type 1} → statement M
+bradawlet-write-spec = tie.close (tie.spec write-sheet-requires written-in-numbers-requires same-length returns)

@@ -1,0 +1,20 @@
+use mathlib.Core.Path.{sym, ap}
+use borrow.Author.Needs.{needs}
+use Rattle.calls.specs.Sheets.{nextCell}
+use Rattle.calls.proofs.sheets.next_cell.Statement.{statement}
+use Rattle.calls.proofs.sheets.next_cell.Tie as tie
+
+enum-known-next : tie.Need-enum-known-next
+enum-known-next c = search needs
+
+enum-told : tie.Need-enum-told
+enum-told c = search needs
+
+returns : tie.Need-returns
+returns c = search needs
+
+returns-2 : tie.Need-returns-2
+returns-2 c = ap nextCell (sym (c .enum-told .given .1))
+
+pub next-cell-spec : {M : Type 1} → statement M
+next-cell-spec = tie.close (tie.spec enum-known-next enum-told returns returns-2)

@@ -1,0 +1,31 @@
+-- One number, one total and the same bytes only fit a writing; one number and one record only fit a step.
+use mathlib.Core.Path.{_≡_, refl, sym, ap, _∙_}
+use mathlib.Core.List.{List}
+use Prim.Native.Nat.{ℕ}
+use lib.IntN.{ℤ, pos}
+use Rattle.sheet.specs.Sheet.{cellNumbers}
+use Rattle.leafing.specs.NextLiveLaws.{steps-fixed}
+use Rattle.leafing.specs.declared.search.Next.{Next}
+use Rattle.writing.specs.Written.{writtenNumber, writtenTotal}
+use Rattle.writing.specs.WrittenLaws.{written-same}
+use Rattle.writing.specs.declared.Written.{Written}
+use Rattle.calls.specs.Sheets.{WriteGives, isGiven, nextCell, NextGives}
+
+pub write-fixed : {w : List ℤ} {bytes : List ℕ} {r total : ℤ} {bytes′ : List ℕ} {s total₂ : ℤ} {bytes″ : List ℕ}
+    → WriteGives w bytes r total bytes′ → WriteGives w bytes s total₂ bytes″ → (r ≡ s) × (total ≡ total₂) × (bytes′ ≡ bytes″)
+write-fixed f g =
+    let same = written-same refl (λ c. (λ x. x, λ x. x)) (λ x. x, λ x. x) (f .writes) (g .writes) in
+    let m = f .in-numbers in
+    let n = g .in-numbers in (
+      m .number-is ∙ ap (λ (a : Written). pos (writtenNumber a)) (same .0) ∙ sym (n .number-is),
+      m .total-is ∙ ap (λ (a : Written). pos (writtenTotal a)) (same .0) ∙ sym (n .total-is),
+      same .1,
+    )
+
+pub next-fixed : {w : List ℤ} {last r : ℤ} {numbers : List ℤ} {s : ℤ} {numbers₂ : List ℤ}
+    → NextGives w last r numbers → NextGives w last s numbers₂ → (r ≡ s) × (numbers ≡ numbers₂)
+next-fixed f g =
+    let same = steps-fixed (f .next) (g .next) (f .steps) (g .steps) in (
+      f .number-is ∙ ap isGiven same ∙ sym (g .number-is),
+      f .record-is ∙ ap (λ (n : Next). cellNumbers (nextCell n)) same ∙ sym (g .record-is),
+    )

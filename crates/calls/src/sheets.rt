@@ -1,0 +1,85 @@
+// The calls that hand out what a table holds: cell by cell, or as a sheet.
+use leafing::search::Next;
+use leafing::search::opening;
+use leafing::step_from;
+use track::cell::Cell;
+use track::minute::Minute;
+use words::number;
+use writing::Written;
+use writing::write_sheet;
+ghost use mathlib.Core.Path.{_≡_};
+ghost use Rattle.track.specs.Refusals.{Gives};
+ghost use Rattle.leafing.specs.NextLive.{openingReasons};
+ghost use Rattle.calls.specs.Sheets.{Small, WrittenInNumbers, WriteGives, nextCell, isGiven, NextGives};
+
+// Hands an answer's total over, and tells its number.
+fn written_in_numbers(written: Written, total: &mut i32) -> i32
+    requires { ⌜ Small written ⌝ }
+    ensures { λ r. ⌜ WrittenInNumbers written r (now (total .exit)) ⌝ }
+{
+    match written {
+        Written::Total(n) => {
+            *total = number(n);
+            0
+        }
+        Written::Refused(why) => {
+            *total = 0;
+            why.number()
+        }
+    }
+}
+
+// Writes the table's sheet to the first bytes: 0, or the refusal's number.
+#[no_mangle]
+pub extern "C" fn bradawlet_write(table: &[i32], bytes: &mut [u8], total: &mut i32) -> i32
+    ensures { λ r. ⌜ WriteGives (now (table .entry)) (now (bytes .entry)) r (now (total .exit)) (now (bytes .exit)) ⌝ }
+{
+    let written = write_sheet(table, bytes);
+    written_in_numbers(written, total)
+}
+
+// Whether the table can be leafed through: 0, or the refusal's number.
+#[no_mangle]
+pub extern "C" fn bradawlet_open(table: &[i32]) -> i32
+    ensures { λ r. ⌜ Gives (openingReasons (now (table .entry))) r ⌝ }
+{
+    opening(table)
+}
+
+// The cell that was found, all zeros where there is none.
+fn next_cell(next: Next) -> Cell
+    ensures { λ r. ⌜ r ≡ nextCell next ⌝ }
+{
+    match next {
+        Next::One(c) => c,
+        Next::None => Cell {
+            id: 0,
+            x: 0,
+            vx: 0,
+            y: 0,
+            vy: 0,
+            expiry: Minute { at: 0 },
+        },
+    }
+}
+
+// 1 where there is a cell, 0 where there is none.
+fn is_given(next: Next) -> i32
+    ensures { λ r. ⌜ r ≡ isGiven next ⌝ }
+{
+    match next {
+        Next::One(_) => 1,
+        Next::None => 0,
+    }
+}
+
+// Gives the next live cell after an identifier, as a sheet record's six numbers: 1, or 0 and zeros where no more are left.
+#[no_mangle]
+pub extern "C" fn bradawlet_next(table: &[i32], last: i32, numbers: &mut [i32; 6]) -> i32
+    ensures { λ r. ⌜ NextGives (now (table .entry)) last r (now (numbers .exit)) ⌝ }
+{
+    let next = step_from(table, last);
+    let c = next_cell(next);
+    *numbers = [c.id, c.x, c.vx, c.y, c.vy, c.expiry.at];
+    is_given(next)
+}

@@ -1,0 +1,7 @@
+pub mod NextLive
+pub mod NextLiveLaws
+pub mod Leafing
+pub mod Search
+pub mod Leafed
+pub mod LeafedLaws
+pub mod LiveCellsLaws

@@ -1,0 +1,3 @@
+pub mod Reads
+pub mod ReadsLaws
+pub mod ThereAndBack

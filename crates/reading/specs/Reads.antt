@@ -1,0 +1,47 @@
+-- Reading a sheet: when it is refused, and what the lent words become.
+use mathlib.Core.Path.{_≡_}
+use mathlib.Core.Logic.{_↔_}
+use mathlib.Core.List.{List, [], _∷_, _++_}
+use Prim.Native.Nat.{ℕ, _<_}
+use lib.IntN.{ℤ}
+use lib.ListN.{length, drop}
+use Rattle.whole.specs.Lists.{_∈_}
+use Rattle.words.specs.Words.{natOf}
+use Rattle.track.specs.Refusals.{Reason, _when_, First, number}
+use Rattle.track.specs.declared.cell.Cell.{Cell}
+use Rattle.table.specs.Header.{capacityWord, clock, wordsFor}
+use Rattle.table.specs.Fresh.{freshReasons}
+use Rattle.table.specs.Sound.{Sound, held}
+use Rattle.sheet.specs.Sheet.{mostCells, countOf, clockOf, cellsOf}
+use Rattle.sheet.specs.WellFormed.{HeaderSound, RecordsSound}
+use Rattle.reading.specs.declared.Outcome.{Outcome}
+use Rattle.reading.specs.declared.Outcome.the-variants.{Accepted, Refused}
+
+-- why the bytes are not read into the words w as a table for so many cells, in the order in which it is tried: as for a fresh table, then the sheet's own
+abbrev pub readReasons : ℤ → List ℤ → List ℕ → List Reason
+readReasons cells w bytes =
+    freshReasons cells w ++
+    11 when (HeaderSound mostCells bytes → ⊥) ∷
+    9 when (natOf cells < countOf bytes) ∷
+    12 when (RecordsSound bytes → ⊥) ∷
+    []
+
+-- each answer's number
+abbrev pub outcomeNumber : Outcome → ℕ
+outcomeNumber Accepted = 0
+outcomeNumber (Refused why) = number why
+
+-- v is a table for so many cells that was read from the bytes into the words w: the sheet's clock, its cells and no others, and no word touched past its need
+pub record IsRead (cells : ℤ) (w : List ℤ) (bytes : List ℕ) (v : List ℤ) : Type 0 where
+  pub sound : Sound v
+  pub capacity-is : capacityWord v ≡ cells
+  pub clock-is : clock v ≡ clockOf bytes
+  pub holds : (c : Cell) → c ∈ held v ↔ c ∈ cellsOf bytes
+  pub as-long : length v ≡ length w
+  pub rest-kept : drop (wordsFor (natOf cells)) v ≡ drop (wordsFor (natOf cells)) w
+
+-- the call's answer and the words that it leaves
+pub record ReadsSheet (cells : ℤ) (w : List ℤ) (bytes : List ℕ) (r : Outcome) (v : List ℤ) : Type 0 where
+  pub refusal : First (readReasons cells w bytes) (outcomeNumber r)
+  pub accepted : outcomeNumber r ≡ 0 → IsRead cells w bytes v
+  pub refused : (outcomeNumber r ≡ 0 → ⊥) → v ≡ w

@@ -1,0 +1,55 @@
+-- What reading a sheet comes to: the sheet's cells are the live ones, and the answer is fixed.
+use mathlib.Core.Path.{_≡_, refl, sym, ap}
+use mathlib.Core.Logic.{inr}
+use mathlib.Core.List.{List}
+use Prim.Native.Nat.{ℕ, _≤_}
+use native.Mathlib.Omega.{arith}
+use lib.IntN.{ℤ}
+use lib.ListN.{length}
+use Rattle.words.specs.Words.{natOf}
+use Rattle.track.specs.Refusals.{First, first-fixed, refused-not-zero, number-fixes}
+use Rattle.table.specs.Header.{IsCapacity, wordsFor}
+use Rattle.sheet.specs.Sheet.{mostCells, countOf, cellsOf}
+use Rattle.sheet.specs.WellFormed.{RecordsSound, SheetSound}
+use Rattle.leafing.specs.Leafed.{LiveCells}
+use Rattle.reading.specs.Reads.{readReasons, outcomeNumber, IsRead, ReadsSheet}
+use Rattle.reading.specs.declared.Outcome.{Outcome}
+use Rattle.reading.specs.declared.Outcome.the-variants.{Accepted, Refused}
+
+-- what is read may be read: a sheet of at most so many cells, into words enough
+pub record CanRead (cells : ℤ) (w : List ℤ) (bytes : List ℕ) : Type 0 where
+  pub capacity-in : IsCapacity cells
+  pub long-enough : wordsFor (natOf cells) ≤ length w
+  pub well-formed : SheetSound mostCells bytes
+  pub few : countOf bytes ≤ natOf cells
+
+-- what is found before a word is written: the first refusal, or that all may be read
+pub record Judges (cells : ℤ) (w : List ℤ) (bytes : List ℕ) (r : Outcome) : Type 0 where
+  pub refusal : First (readReasons cells w bytes) (outcomeNumber r)
+  pub can : outcomeNumber r ≡ 0 → CanRead cells w bytes
+
+-- what may be read is not refused
+pub can-accept : {cells : ℤ} {w : List ℤ} {bytes : List ℕ} → CanRead cells w bytes → First (readReasons cells w bytes) 0
+can-accept c =
+    inr (λ f. f (c .capacity-in), inr (λ lt. omega (arith, c .long-enough), inr (λ f. f (c .well-formed .header), inr (λ lt. omega (arith, c .few), inr (λ f. f (c .well-formed .records), refl)))))
+
+pub read-accepted : {cells : ℤ} {w : List ℤ} {bytes : List ℕ} {r : Outcome} {v : List ℤ} → CanRead cells w bytes → ReadsSheet cells w bytes r v → IsRead cells w bytes v
+read-accepted {cells} {w} {bytes} {r} can p = p .accepted (first-fixed (readReasons cells w bytes) (outcomeNumber r) 0 (p .refusal) (can-accept can))
+
+-- ---- the live cells of what was read are the sheet's
+pub read-live : {cells : ℤ} {w : List ℤ} {bytes : List ℕ} {v : List ℤ} → RecordsSound bytes → IsRead cells w bytes v → LiveCells v (cellsOf bytes)
+read-live {v} sound p = record {
+  rising = sound .rising;
+  only = λ c m. record { is-held = p .holds c .1 m; in-life = rw (p .clock-is) (sound .in-life c m) };
+  all = λ c live. p .holds c .0 (live .is-held);
+}
+
+-- ---- the answer is fixed
+pub outcome-fixed : (r s : Outcome) → outcomeNumber r ≡ outcomeNumber s → r ≡ s
+outcome-fixed Accepted Accepted e = refl
+outcome-fixed Accepted (Refused why) e = absurd (refused-not-zero why (sym e))
+outcome-fixed (Refused why) Accepted e = absurd (refused-not-zero why e)
+outcome-fixed (Refused why) (Refused other) e = ap Refused (number-fixes why other e)
+
+pub read-fixed : {cells : ℤ} {w : List ℤ} {bytes : List ℕ} {r s : Outcome} {u v : List ℤ} → ReadsSheet cells w bytes r u → ReadsSheet cells w bytes s v → r ≡ s
+read-fixed {cells} {w} {bytes} {r} {s} p q = outcome-fixed r s (first-fixed (readReasons cells w bytes) (outcomeNumber r) (outcomeNumber s) (p .refusal) (q .refusal))

@@ -1,0 +1,53 @@
+-- There and back: a sheet that was read is written as the same bytes, and a table that was written is read back with the same clock and live cells.
+use mathlib.Core.Path.{_≡_, sym, ap, _∙_}
+use mathlib.Core.Logic.{_↔_}
+use mathlib.Core.List.{List, _++_}
+use Prim.Native.Nat.{ℕ, _≤_}
+use native.Mathlib.Omega.{arith}
+use lib.IntN.{ℤ}
+use lib.ListN.{length, take, drop}
+use Rattle.words.specs.Words.{natOf}
+use Rattle.track.specs.declared.cell.Cell.{Cell}
+use Rattle.table.specs.Header.{IsCapacity, clock, wordsFor}
+use Rattle.table.specs.Sound.{Sound, Live}
+use Rattle.sheet.specs.Bytes.{AreBytes}
+use Rattle.sheet.specs.Sheet.{mostCells, totalFor, sheetOf, countOf, cellsOf}
+use Rattle.sheet.specs.SheetLaws.{sheet-back, length-is, length-cellsFrom}
+use Rattle.sheet.specs.WellFormed.{SheetSound}
+use Rattle.leafing.specs.LiveCellsLaws.{live-same-list}
+use Rattle.writing.specs.Written.{Writes}
+use Rattle.writing.specs.SheetWritten.{written-sheet}
+use Rattle.reading.specs.Reads.{IsRead}
+use Rattle.reading.specs.ReadsLaws.{CanRead, read-live}
+
+-- ---- a well-formed sheet that was read is written as it was, in the first bytes of any buffer that is long enough
+module _ {cells : ℤ} {w : List ℤ} {bytes : List ℕ} {v : List ℤ} (small : AreBytes bytes) (sheet : SheetSound mostCells bytes) (read : IsRead cells w bytes v) where
+  pub read-then-written : {buffer : List ℕ} {total : ℕ} {buffer′ : List ℕ} → Writes v buffer total buffer′ → (total ≡ length bytes) × (buffer′ ≡ bytes ++ drop (length bytes) buffer)
+  read-then-written {buffer} {total} {buffer′} p =
+      let same : p .cells ≡ cellsOf bytes = live-same-list (λ c. (λ x. x, λ x. x)) (p .live) (read-live (sheet .records) read) in
+      let many : length (p .cells) ≡ countOf bytes = ap length same ∙ length-cellsFrom bytes 0 (countOf bytes) in
+      let long : total ≡ length bytes = p .total-is ∙ ap totalFor many ∙ sym (length-is bytes small mostCells (sheet .header)) in
+      let first : sheetOf (clock v) (p .cells) ≡ bytes = rw (read .clock-is, same) (sheet-back bytes small mostCells (sheet .header)) in
+      (long, p .written ∙ rw (first, long))
+
+-- ---- a sound table that was written is read back with the same clock and live cells, by a table of any capacity that has room for them
+module _ {w : List ℤ} (sound : Sound w) {buffer : List ℕ} {total : ℕ} {buffer′ : List ℕ} (p : Writes w buffer total buffer′) where
+  abbrev sheet : List ℕ
+  sheet = take total buffer′
+
+  -- it is not refused
+  pub written-can-read : {cells : ℤ} {t : List ℤ} → IsCapacity cells → wordsFor (natOf cells) ≤ length t → length (p .cells) ≤ natOf cells → CanRead cells t sheet
+  written-can-read {cells} capacity long few =
+      let same = live-same-list (λ c. (λ x. x, λ x. x)) (written-sheet sound p .live) (p .live) in
+      record {
+        capacity-in = capacity;
+        long-enough = long;
+        well-formed = written-sheet sound p .well-formed;
+        few = omega (arith, ap length same, length-cellsFrom sheet 0 (countOf sheet));
+      }
+
+  pub written-then-read : {cells : ℤ} {t v : List ℤ} → IsRead cells t sheet v → (clock v ≡ clock w) × ((c : Cell) → Live v c ↔ Live w c)
+  written-then-read {v} read =
+      let there = written-sheet sound p in
+      let back = read-live (there .well-formed .records) read in
+      (read .clock-is ∙ there .clock-is, λ c. (λ l. there .live .only c (back .all c l), λ l. back .only c (there .live .all c l)))

@@ -1,0 +1,4 @@
+pub mod Written
+pub mod Passes
+pub mod WrittenLaws
+pub mod SheetWritten
