@@ -28,8 +28,8 @@ use Rattle.spelling.specs.DecimalLaws.{one-no, one-hits}
 use Rattle.feed.specs.Parting.{Parted, lastLine}
 use Rattle.feed.specs.PartingLaws.{parted-once}
 use Rattle.answering.specs.Answered.{longestLine, listPlaces, AnswerLine, QueryLine, OutcomeLine, StepLine, IsLine, FormLine, Answered, Session, no-line, and-line}
-use Rattle.answering.specs.Alike.{Alike}
-use Rattle.answering.specs.AlikeLaws.{query-number, ids-alike, report-alike, drop-alike, fresh-alike, alike-itself}
+use Rattle.alike.specs.Alike.{Alike}
+use Rattle.alike.specs.AlikeLaws.{query-number, ids-alike, report-alike, drop-alike, fresh-alike, alike-itself}
 
 -- ---- what a line is
 same-reading : {line : List ℕ} {f g : Line} → Reads line f → Reads line g → f ≡ g

@@ -1,7 +1,5 @@
 pub mod Answered
 pub mod AnsweredLaws
-pub mod Alike
-pub mod AlikeLaws
 pub mod Writing
 pub mod Asking
 pub mod Stepping

@@ -24,7 +24,7 @@ use Rattle.table.specs.Fresh.{IsFresh}
 use Rattle.tree.specs.Steps.{Stays, IsThere, NoRoom, Step, reportRefusals, LeftByReport, ReportSteps, dropRefusals, DropSteps}
 use Rattle.query.specs.Hits.{Hit, Hits, MoreHits}
 use Rattle.query.specs.QueriedLaws.{hits-fixed}
-use Rattle.answering.specs.Alike.{Alike}
+use Rattle.alike.specs.Alike.{Alike}
 
 -- ---- reasons that hold alike where those before them do not hold
 abbrev SameIf : List Reason → List Reason → Type 0
