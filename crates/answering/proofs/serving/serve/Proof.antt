@@ -9,7 +9,7 @@ use Rattle.answering.proofs.serving.serve.Tie as tie
 
 abbrev Inv-loop : tie.InvT-loop
 Inv-loop t₀ list₀ buffer₀ held piece out₀ place₀ i₀ t list buffer out place i =
-    (length t ≡ length t₀) × (length list ≡ length list₀) × (length buffer ≡ length buffer₀) × (length out ≡ length out₀) × SoFar t₀ buffer₀ held piece i t buffer (place .held) out (place .written)
+    (length t ≡ length t₀) × (length list ≡ length list₀) × (length buffer ≡ length buffer₀) × (length out ≡ length out₀) × SoFar t₀ buffer₀ held piece out₀ i t buffer (place .held) out (place .written)
 
 abbrev μ-loop : tie.MeasureT-loop
 μ-loop t₀ list₀ buffer₀ held piece out₀ place₀ i₀ t list buffer out place i = length piece - i
