@@ -167,5 +167,5 @@ run-alike a long (one-call {c} {a = x} p run) (one-call {a = y} q again) =
 
 -- the reply is a function of the model, the capacity, the length and what is given to the call
 pub reply-fixed : {m : Model} {w v : List ℤ} → Together m w → Together m v → capacityWord w ≡ capacityWord v → length w ≡ length v
-    → (c : Call) (x y : Reply) {w′ v′ : List ℤ} → Happens w c x w′ → Happens v c y v′ → x ≡ y
-reply-fixed s t cells long c x y p q = call-alike (model-alike cells s t) long c x y p q .0
+    → (c : Call) (x y : Reply) (w′ v′ : List ℤ) → Happens w c x w′ → Happens v c y v′ → x ≡ y
+reply-fixed s t cells long c x y w′ v′ p q = call-alike (model-alike cells s t) long c x y p q .0
