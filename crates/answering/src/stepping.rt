@@ -8,8 +8,7 @@ use tree::change::report;
 use tree::outcome::Outcome;
 ghost use Prim.Native.Nat.{_≤_};
 ghost use lib.ListN.{length};
-ghost use Rattle.tree.specs.Steps.{ReportSteps, DropSteps};
-ghost use Rattle.tree.specs.Outcomes.{outcomeNumber};
+ghost use Rattle.tree.specs.Steps.{ReportSteps, DropSteps, outcomeNumber};
 ghost use Rattle.spelling.specs.Answers.{Written};
 ghost use Rattle.answering.specs.Answered.{longestAnswer, OutcomeLine, StepLine};
 

@@ -1,7 +1,6 @@
 use mir.Syntax.{w32}
 use Rattle.whole.specs.Within.{back}
-use Rattle.tree.specs.Steps.{ReportSteps}
-use Rattle.tree.specs.Outcomes.{outcomeNumber}
+use Rattle.tree.specs.Steps.{ReportSteps, outcomeNumber}
 use Rattle.answering.specs.Writing.{written-as}
 use borrow.Author.Needs.{needs}
 use Rattle.answering.proofs.stepping.answer_cell.Statement.{statement}
