@@ -97,10 +97,13 @@ module _ {w : List ℤ} {minute id : ℤ} {v : List ℤ} (h : Holding w minute) 
   taken-leaves = rw (root-same, height-same) (moved-out (t .out .mended .moved))
 
   pub cleared-one : {u : List ℤ} → Settled v minute u → Clearing w minute id u × (length (leaves u) < length (leaves w))
-  cleared-one {u} s = (record {
-    holding = s .holding;
-    stands = stands-then stands (rw (stands-capacity stands) at (s .stands));
-    gone = t .entry ∷ [];
-    all-go = λ x m. subst (λ (y : Entry). Goes minute id (cellOf y)) (sym (List·Memᴰ·eq-of-singleton m)) (t .goes);
-    parted = same-trans taken-leaves (same-append {l = t .entry ∷ []} same-refl (same-sym (s .same-leaves)));
-  }, omega (arith, same-length taken-leaves, same-length (s .same-leaves)))
+  cleared-one {u} s = (
+    record {
+      holding = s .holding;
+      stands = stands-then stands (rw (stands-capacity stands) at (s .stands));
+      gone = t .entry ∷ [];
+      all-go = λ x m. subst (λ (y : Entry). Goes minute id (cellOf y)) (sym (List·Memᴰ·eq-of-singleton m)) (t .goes);
+      parted = same-trans taken-leaves (same-append {l = t .entry ∷ []} same-refl (same-sym (s .same-leaves)));
+    },
+    omega (arith, same-length taken-leaves, same-length (s .same-leaves)),
+  )

@@ -204,12 +204,12 @@ module _ {w : List ℤ} {minute : ℤ} {h i k : ℕ} (can : CanMend w minute h i
         mends-share {x} child-filled sibling-filled last =
             let c = entryAbove (entriesAt u) (isLeaf h) minute child in
             let has′ : SameWeights (entriesAt x i) (c ∷ s ∷ places .rest) =
-                rw (changed-here last, node-now) (same-trans (places .both-set s c) (same-append (same-swap (s ∷ []) (c ∷ [])) (same-refl {l = places .rest}))) in
+            rw (changed-here last, node-now) (same-trans (places .both-set s c) (same-append (same-swap (s ∷ []) (c ∷ [])) (same-refl {l = places .rest}))) in
             let dealt : SameWeights (N (childOf e) ++ N (childOf f)) (entriesAt x (childOf e) ++ entriesAt x (childOf f)) =
-                rw (← is, ← sibling-is, child-at-last last, sibling-at-last last) (d .all) in
+            rw (← is, ← sibling-is, child-at-last last, sibling-at-last last) (d .all) in
             let c-afresh : Afresh (entriesAt x) cells minute h c =
-                rw (← above-same (entriesAt u) (entriesAt x) (isLeaf h) minute child (changed-others last child apart))
-                (above-afresh (entriesAt x) cells minute h child (can .is-minute) child-low (rw (child-at-last last) child-filled)) in
+            rw (← above-same (entriesAt u) (entriesAt x) (isLeaf h) minute child (changed-others last child apart))
+            (above-afresh (entriesAt x) cells minute h child (can .is-minute) child-low (rw (child-at-last last) child-filled)) in
             record {
               kept = kept-over-all last;
               out = λ N₀ y has once sound p.
@@ -222,7 +222,7 @@ module _ {w : List ℤ} {minute : ℤ} {h i k : ℕ} (can : CanMend w minute h i
         mends-join {x} free sibling-filled last =
             let has′ : SameWeights (entriesAt x i) (s ∷ places .rest) = rw (changed-here last, node-now) (places .one-out s) in
             let joined : SameWeights (N (childOf f) ++ N (childOf e)) (entriesAt x (childOf f)) =
-                rw (← is, ← sibling-is, sibling-at-last last) (same-trans (same-swap (N sibling) (N child)) (same-trans (d .all) (same-as (ap (λ (l : List Entry). l ++ entriesAt v sibling) free)))) in
+            rw (← is, ← sibling-is, sibling-at-last last) (same-trans (same-swap (N sibling) (N child)) (same-trans (d .all) (same-as (ap (λ (l : List Entry). l ++ entriesAt v sibling) free)))) in
             let freed : Free (entriesAt x) (childOf e) = rw (← is) (child-at-last last ∙ free) in
             record {
               kept = kept-over-all last;

@@ -71,16 +71,16 @@ module _ {w : List ℤ} {minute : ℤ} {h i k : ℕ} {v : List ℤ} (is : IsMinu
   pub first : childAt (entriesAt v) i k ≡ p .full
   first =
       ap childOf (
-        ap (λ (l : List Entry). getD l k []) (p .child .entries) ∙
-        List·getD-append (set (N i) k (stayEntry p)) (goEntry p ∷ []) [] k (simp length-set has) ∙
-        getD-set-same (N i) k (stayEntry p) [] has) ∙
+      ap (λ (l : List Entry). getD l k []) (p .child .entries) ∙
+      List·getD-append (set (N i) k (stayEntry p)) (goEntry p ∷ []) [] k (simp length-set has) ∙
+      getD-set-same (N i) k (stayEntry p) [] has) ∙
       child-above N′ (isLeaf h) minute (p .full)
 
   pub last : childAt (entriesAt v) i (length (entriesAt v i) - 1) ≡ p .node
   last =
       let place : length (N′ i) - 1 ≡ length (set (N i) k (stayEntry p)) = simp length-set (omega (arith, many)) in
       let there : getD (N′ i) (length (N′ i) - 1) [] ≡ goEntry p =
-          rw place (ap (λ (l : List Entry). getD l (length (set (N i) k (stayEntry p))) []) (p .child .entries) ∙ getD-append-seam (set (N i) k (stayEntry p)) (goEntry p) [] []) in
+      rw place (ap (λ (l : List Entry). getD l (length (set (N i) k (stayEntry p))) []) (p .child .entries) ∙ getD-append-seam (set (N i) k (stayEntry p)) (goEntry p) [] []) in
       ap childOf there ∙ child-above N′ (isLeaf h) minute (p .node)
 
   -- the node is mended

@@ -104,8 +104,8 @@ module _ (w : List ℤ) (minute id : ℤ) (i k : ℕ) where
   stay-inner h low =
       let e = getD (entriesAt w i) k [] in
       rw (entries-left w i k low) (
-        weight-child (entriesAt w) (stays minute id) h e (drop (k + 1) (entriesAt w i)) ∙
-        ap (λ (n : ℕ). n + stayFrom w minute id (suc h) i (k + 1)) (weight-node (entriesAt w) (stays minute id) h (childOf e)))
+      weight-child (entriesAt w) (stays minute id) h e (drop (k + 1) (entriesAt w i)) ∙
+      ap (λ (n : ℕ). n + stayFrom w minute id (suc h) i (k + 1)) (weight-node (entriesAt w) (stays minute id) h (childOf e)))
 
   -- no more than the cells below the node
   pub stay-most : (h : ℕ) → CanCount w h i → stayFrom w minute id h i k ≤ greatestCapacity
@@ -131,12 +131,12 @@ can-count-child {w} {h} {i} {k} can low is =
       clock = can .clock;
       sound = rw is (child-sound N (capacity w) (can .clock) h i k (can .sound) low);
       few = rw is (
-        omega (
-          arith,
-          can .few,
-          sum-length (leavesOf N (suc h) i),
-          sum-length (leavesOf N h (childOf e)),
-          weight-has N one (suc h) i (at-weights (N i) k [] low),
-          weight-child N one h e (without k (N i)),
-        ));
+          omega (
+            arith,
+            can .few,
+            sum-length (leavesOf N (suc h) i),
+            sum-length (leavesOf N h (childOf e)),
+            weight-has N one (suc h) i (at-weights (N i) k [] low),
+            weight-child N one h e (without k (N i)),
+          ));
     }

@@ -156,7 +156,7 @@ module _ {w v : List ℤ} {minute id : ℤ} (s : Sound w) (c : Cleared w minute 
         clock-is = set-clock .clock-is;
         live = λ d. (
           λ l. let f = Memᴰ·of-map cellOf (leaves v) (rw is at (l .is-held)) in subst (Stays w minute id) (f .2) (left-stays (f .0) (f .1)),
-          λ t. record { is-held = rw is (stays-left d t); in-life = rw (set-clock .clock-is) (t .lives) }
+          λ t. record { is-held = rw is (stays-left d t); in-life = rw (set-clock .clock-is) (t .lives) },
         );
         as-long = stands-at-last s h stood set-clock fewer still-once .same-length;
         rest-kept = rest-at-last s h stood set-clock fewer still-once;

@@ -70,7 +70,7 @@ module _ (t : ℕ) where
       let s = c .before .before .before .before .before .before .before in
       let a = s .args in
       let cell-is : c .before .cell .result ≡ cellOf (getD (entriesAt (a .t .now) (a .i)) (a .k) []) =
-          c .before .cell .ensures ∙ ap (λ n. cellOf (entryAt n (a .k))) (c .before .before .node-at .ensures) ∙ ap cellOf (sym (entry-here (a .t .now) (a .i) (a .k) (low (c .before .before .before .before .before)))) in
+      c .before .cell .ensures ∙ ap (λ n. cellOf (entryAt n (a .k))) (c .before .before .node-at .ensures) ∙ ap cellOf (sym (entry-here (a .t .now) (a .i) (a .k) (low (c .before .before .before .before .before)))) in
       simp (back (s .fits .minute), back (s .fits .id), cell-is) at (c .goes .ensures)
 
   leaf : (c : lts.Then2 (calls t) (entered t) reads.Post) → c .before .before .before .before .args .h ≡ 0
@@ -147,8 +147,8 @@ module _ (t : ℕ) where
   sum-inner c =
       let a = c .before .before .before .before .before .before .args in
       rw (below-is c, rest-is (c .before .before .before)) (
-        subst (λ h. stayFrom (a .t .now) (a .minute) (a .id) h (a .i) (a .k) ≡ stayFrom (a .t .now) (a .minute) (a .id) (a .h - 1) (childAt (entriesAt (a .t .now)) (a .i) (a .k)) 0 + stayFrom (a .t .now) (a .minute) (a .id) h (a .i) (a .k + 1))
-        (sym (one-level (c .before .before))) (stay-inner (a .t .now) (a .minute) (a .id) (a .i) (a .k) (a .h - 1) (low (c .before .before .before .before))))
+      subst (λ h. stayFrom (a .t .now) (a .minute) (a .id) h (a .i) (a .k) ≡ stayFrom (a .t .now) (a .minute) (a .id) (a .h - 1) (childAt (entriesAt (a .t .now)) (a .i) (a .k)) 0 + stayFrom (a .t .now) (a .minute) (a .id) h (a .i) (a .k + 1))
+      (sym (one-level (c .before .before))) (stay-inner (a .t .now) (a .minute) (a .id) (a .i) (a .k) (a .h - 1) (low (c .before .before .before .before))))
 
   add-result-2 : lts.Need-add-result-2 (calls t) (entered t) reads.Post
   add-result-2 c = let a = c .before .before .before .before .before .before .args in omega (arith, sum-inner c, stay-most (a .t .now) (a .minute) (a .id) (a .i) (a .k) (a .h) (c .before .before .before .before .before .before .pre .1))

@@ -82,8 +82,8 @@ returns c =
     let beside = sibling-is (c .before .before .before .before .before .before .before .before .before .before .before .before) in
     let rest = emptied p is beside (three (c .before .before .before .before .before .before .before .before .before .before .before .before)) moved in
     let last : Changed u (s .args .i) (without (s .args .k) (entriesAt u (s .args .i))) (c .before .remove-at .last .0) =
-        rw (c .before .remove-at .ensures)
-        (removed-at u (s .args .i) (node-still (p .can) is (p .b-has) (p .b-other) beside d put) (s .args .k) (has-still (p .can) is (p .b-has) (p .b-other) beside d put)) in
+    rw (c .before .remove-at .ensures)
+    (removed-at u (s .args .i) (node-still (p .can) is (p .b-has) (p .b-other) beside d put) (s .args .k) (has-still (p .can) is (p .b-has) (p .b-other) beside d put)) in
     mends-join (p .can) is (p .b-has) (p .b-other) beside d put (rest .0) (rest .1) last
 
 pub join-spec : {M : Type 1} → statement M

@@ -97,7 +97,7 @@ returns c =
     let appended = c .before .append-at .ensures in
     let e = c .before .before .before .entry-above .result in
     let behind : Changed u (s .args .i) (entriesAt u (s .args .i) ++ e ∷ []) (c .before .append-at .last .0) =
-        rw (appended .0) (appended-at u (s .args .i) (node-in-table (s .pre) is first parts moved put) e (node-room (s .pre) is first parts moved put) (appended .1)) in
+    rw (appended .0) (appended-at u (s .args .i) (node-in-table (s .pre) is first parts moved put) e (node-room (s .pre) is first parts moved put) (appended .1)) in
     record { full = c .before .before .before .before .before .before .before .before .before .before .before .before .before .before .before .before .before .child-at .result; node = c .before .before .before .before .before .before .before .before .before .before .before .before .before .before .free-node .result; child-is = is; child = parted-child (s .pre) is first parts moved put (rw (above-is (c .before .before .before)) at behind) }
 
 pub part-child-spec : {M : Type 1} → statement M

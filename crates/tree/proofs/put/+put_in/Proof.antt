@@ -104,7 +104,7 @@ module _ (t : ℕ) where
       let can = leaf-can (c .before .before .before .before) in
       let put = c .before .append-at .ensures in
       let changed : Changed w (s .args .i) (entriesAt w (s .args .i) ++ leafEntry (s .args .c) ∷ []) (c .before .append-at .last .0) =
-          rw (← c .before .before .leaf-entry .ensures, put .0) (appended-at w (s .args .i) (ample-in (can .ample) (s .args .i) (can .node-in)) _ (can .room) (put .1)) in
+      rw (← c .before .before .leaf-entry .ensures, put .0) (appended-at w (s .args .i) (ample-in (can .ample) (s .args .i) (can .node-in)) _ (can .room) (put .1)) in
       let e : 0 ≡ s .args .h = omega arith in
       subst (λ h. Puts w (s .args .minute) h (s .args .i) (leafEntry (s .args .c)) (c .before .append-at .last .0)) e (puts-leaf can (rw (cell-leaf (s .args .c)) (s .pre .1 .1)) changed)
 

@@ -40,9 +40,10 @@ loop-less c = search needs
 
 loop-again : tie.Need-loop-again Inv-loop μ-loop
 loop-again c =
-    let l = c .before .before .before .before .before .loop in
-    (omega (arith, l .inv .0),
-    gone-go (c .before .before .before .before .before .before .pre) _ (omega (arith, l .inv .0)) (behind (c .before .before .before .before)) (c .before .before .before .if1 .taken) (c .before .move-entry .ensures))
+    let l = c .before .before .before .before .before .loop in (
+      omega (arith, l .inv .0),
+      gone-go (c .before .before .before .before .before .before .pre) _ (omega (arith, l .inv .0)) (behind (c .before .before .before .before)) (c .before .before .before .if1 .taken) (c .before .move-entry .ensures),
+    )
 
 loop-less-2 : tie.Need-loop-less-2 Inv-loop μ-loop
 loop-less-2 c = search needs

@@ -83,7 +83,7 @@ module _ (t : ℕ) where
       let s = c .before .before .before .before .before .before .before .before in
       let a = s .args in
       let cell-is : c .before .cell .result ≡ cellOf (getD (entriesAt (a .t .now) (a .i)) (a .k) []) =
-          c .before .cell .ensures ∙ ap (λ n. cellOf (entryAt n (a .k))) (c .before .before .node-at .ensures) ∙ ap cellOf (sym (entry-here (a .t .now) (a .i) (a .k) (low (c .before .before .before .before .before)))) in
+      c .before .cell .ensures ∙ ap (λ n. cellOf (entryAt n (a .k))) (c .before .before .node-at .ensures) ∙ ap cellOf (sym (entry-here (a .t .now) (a .i) (a .k) (low (c .before .before .before .before .before)))) in
       simp (back (s .fits .minute), back (s .fits .id), cell-is) at (c .goes .ensures)
 
   child-is : (c : lts.After-child-at (calls t) (entered t) reads.Post) → let a = c .before .before .before .before .before .before .args in c .child-at .result ≡ childAt (entriesAt (a .t .now)) (a .i) (a .k)
