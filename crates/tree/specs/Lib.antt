@@ -36,3 +36,4 @@ pub mod Steps
 pub mod StayingLaws
 pub mod SoundWhole
 pub mod Stepping
+pub mod Outcomes

@@ -3,11 +3,11 @@ use mathlib.Core.Path.{_≡_, refl, sym, ap, subst}
 use mathlib.Core.Bool.{Bool, true, false}
 use mathlib.Core.Logic.{inl, inr, ⊎-elim}
 use mathlib.Core.List.{List, [], _∷_, map, List·Memᴰ·head, List·Memᴰ·tail, Memᴰ·map, Memᴰ·of-map}
-use Prim.Native.Nat.{ℕ, suc, _+_, _≤_, _<_}
+use Prim.Native.Nat.{ℕ, _+_, _≤_, _<_}
 use native.Mathlib.Decide.{decLt}
 use native.Mathlib.Omega.{arith}
 use lib.IntN.{ℤ, pos}
-use lib.ListN.{length}
+use lib.ListN.{length, length-map}
 use lib.Signed.{clashℤ, ltZ-yes}
 use Rattle.whole.specs.Lists.{_∈_, _⊆_, put-if, keep, keep-in, in-keep, NoRepeat, no-repeat-none, no-repeat-cons, no-repeat-head, no-repeat-tail, no-repeat-fits}
 use Rattle.whole.specs.Order.{≤ℤ-or-<ℤ}
@@ -49,10 +49,6 @@ unfolding keep stays
 many-stay minute id [] = sym (sum-none (stays minute id))
 many-stay minute id (e ∷ l) =
     omega (arith, length-put-if (decGoes minute id (cellOf e)) e (keep (stayTest minute id) l), many-stay minute id l, sum-cons (stays minute id) e l)
-
-pub length-map : {A B : Type 0} (f : A → B) (l : List A) → length (map f l) ≡ length l
-length-map f [] = refl
-length-map f (x ∷ l) = ap suc (length-map f l)
 
 -- their cells are told apart by identifier
 cells-once : (test : Entry → Bool) (l : List Entry) → NoRepeat (map identifier (map cellOf l)) → NoRepeat (map cellOf (keep test l))
@@ -106,7 +102,7 @@ module _ {w : List ℤ} (s : Sound w) (minute id : ℤ) where
     others = map cellOf keepers;
     once = cells-once (stayTest minute id) (leaves w) (s .identifiers-once);
     each = each;
-    full = omega (arith, length-map cellOf keepers, many-stay minute id (leaves w), few-stay minute id (leaves w), length-map cellOf (leaves w), s .few-cells);
+    full = omega (arith, length-map keepers cellOf, many-stay minute id (leaves w), few-stay minute id (leaves w), length-map (leaves w) cellOf, s .few-cells);
   }
     where
       each : (c : Cell) → c ∈ map cellOf (keep (stayTest minute id) (leaves w)) → Stays w minute id c
@@ -118,7 +114,7 @@ module _ {w : List ℤ} (s : Sound w) (minute id : ℤ) where
 
   pub more-room : manyStay w minute id < capacity w → NoRoom w minute id → ⊥
   unfolding keepers
-  more-room few n = omega (arith, n .full, no-repeat-fits (n .once) inside, length-map cellOf keepers, many-stay minute id (leaves w))
+  more-room few n = omega (arith, n .full, no-repeat-fits (n .once) inside, length-map keepers cellOf, many-stay minute id (leaves w))
     where
       inside : n .others ⊆ map cellOf (keep (stayTest minute id) (leaves w))
       inside c m =

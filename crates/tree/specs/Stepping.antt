@@ -1,20 +1,22 @@
 -- From a sound table, through the changes of its tree, to the sound table that a call leaves.
 use mathlib.Core.Path.{_≡_, refl, sym, ap, _∙_, subst}
-use mathlib.Core.Logic.{inl, inr, ⊎-elim}
+use mathlib.Core.Logic.{_⊎_, inl, inr, ⊎-elim}
 use mathlib.Core.List.{List, [], _∷_, _++_, map, List·Memᴰ·head, List·Memᴰ·tail, List·Memᴰ·cases-cons, List·Memᴰ·append-cases, Memᴰ·append-right, Memᴰ·map, Memᴰ·of-map, map-append}
 use Prim.Native.Nat.{ℕ, _+_, _≤_, _<_}
 use native.Mathlib.Omega.{arith}
 use lib.IntN.{ℤ, pos, ℤ-discrete}
-use lib.ListN.{length, drop, length-append, length-drop}
+use lib.ListN.{length, drop, length-append, length-drop, length-map}
 use lib.Signed.{_≤ℤ_, clashℤ}
 use lib.Seq.{ext-getD, getD-drop}
-use Rattle.whole.specs.Lists.{_∈_, NoRepeat, no-repeat-right}
+use Rattle.whole.specs.Lists.{_∈_, NoRepeat, no-repeat-cons, no-repeat-right}
 use Rattle.whole.specs.Order.{≤ℤ-or-<ℤ}
 use Rattle.words.specs.Words.{wordAt, natOf}
 use Rattle.track.specs.Numbers.{IsMinute}
-use Rattle.track.specs.Life.{identifier}
+use Rattle.track.specs.Life.{identifier, LivesAt}
 use Rattle.track.specs.declared.cell.Cell.{Cell}
 use Rattle.node.specs.Entry.{Entry, cellOf}
+use Rattle.node.specs.Made.{leafEntry}
+use Rattle.node.specs.MadeLaws.{cell-leaf}
 use Rattle.table.specs.Header.{capacity, clock, root, height, wordsFor, entriesAt}
 use Rattle.table.specs.HeaderLaws.{capacity-low}
 use Rattle.table.specs.Sound.{Sound}
@@ -24,13 +26,14 @@ use Rattle.tree.specs.Headed.{Clocked, headed-same}
 use Rattle.tree.specs.Whole.{whole-later}
 use Rattle.tree.specs.SoundWhole.{WholeTree, sound-whole, Framed, whole-sound}
 use Rattle.tree.specs.Holding.{leaves, Holding, Stands, stands-then, stands-capacity, stands-ample, headed-stands}
+use Rattle.tree.specs.PutCell.{PutCell}
 use Rattle.tree.specs.Goes.{Goes}
 use Rattle.tree.specs.Clear.{Cleared}
 use Rattle.tree.specs.Staying.{stays, goes-none, stays-one}
-use Rattle.tree.specs.StayingLaws.{length-map, manyStay}
+use Rattle.tree.specs.StayingLaws.{manyStay}
 use Rattle.tree.specs.Steps.{Stays, Step}
 
-sound-ample : {w : List ℤ} → Sound w → Ample w
+pub sound-ample : {w : List ℤ} → Sound w → Ample w
 sound-ample s = record { few = capacity-low (s .capacity-in); long = s .long-enough }
 
 -- a sound table is held at any minute that is not before its clock
@@ -79,7 +82,7 @@ module _ {w v u : List ℤ} {minute : ℤ} (s : Sound w) (h : Holding v minute) 
         height-in = rw (set-clock .same-height) (h .height-in);
         counts-in = rw (stands-capacity stands-at-last) (stands-at-last .still-counted (s .counts-in));
         root-filled = λ inner. rw (same, root-same) (h .root-filled (rw height-same at inner));
-        few-cells = rw (stands-capacity stands-at-last, same-leaves) (omega (arith, length-map cellOf (leaves v), few));
+        few-cells = rw (stands-capacity stands-at-last, same-leaves) (omega (arith, length-map (leaves v) cellOf, few));
         identifiers-once = rw same-leaves once;
       }
 
@@ -100,7 +103,7 @@ module _ {w v : List ℤ} {minute id : ℤ} (s : Sound w) (c : Cleared w minute 
         arith,
         same-length (c .clearing .parted),
         length-append gone (leaves v),
-        length-map cellOf (leaves w),
+        length-map (leaves w) cellOf,
         s .few-cells,
       )
 
@@ -161,3 +164,56 @@ module _ {w v : List ℤ} {minute id : ℤ} (s : Sound w) (c : Cleared w minute 
         as-long = stands-at-last s h stood set-clock fewer still-once .same-length;
         rest-kept = rest-at-last s h stood set-clock fewer still-once;
       }
+
+  -- ---- and a cell has been put in
+  module _ {u : List ℤ} (cell : Cell) (id-is : cell .id ≡ id) (room : manyStay w minute id < capacity w) (p : PutCell v minute (leafEntry cell) u) where
+    abbrev x : Entry
+    x = leafEntry cell
+
+    stood-put : Stands (capacity w) w u
+    stood-put = stands-then (c .clearing .stands) (rw (stands-capacity (c .clearing .stands)) at (p .stands))
+
+    fewer-put : length (leaves u) ≤ capacity w
+    fewer-put = omega (arith, same-length (p .one-more), left-many)
+
+    once-put : NoRepeat (map identifier (map cellOf (leaves u)))
+    once-put = same-no-repeat ℤ-discrete (same-map identifier (same-map cellOf (same-sym (p .one-more)))) (no-repeat-cons new still-once)
+      where
+        new : identifier (cellOf x) ∈ map identifier (map cellOf (leaves v)) → ⊥
+        new m =
+            let f = Memᴰ·of-map identifier (map cellOf (leaves v)) m in
+            let g = Memᴰ·of-map cellOf (leaves v) (f .1) in
+            c .all-stay (g .0) (g .1) (inr (ap identifier (g .2) ∙ f .2 ∙ ap identifier (cell-leaf cell) ∙ id-is))
+
+    -- a report's step
+    pub report-step : {z : List ℤ} → LivesAt minute cell → Clocked u minute z → Step w z minute (λ d. (d ≡ cell) ⊎ Stays w minute id d)
+    report-step {z} lives set-clock =
+        let h = p .holding in
+        let is = same-leaves s h stood-put set-clock fewer-put once-put in
+        record {
+          sound = sound-at-last s h stood-put set-clock fewer-put once-put;
+          capacity-is = stands-at-last s h stood-put set-clock fewer-put once-put .same-capacity;
+          clock-is = set-clock .clock-is;
+          live = λ d. (
+            λ l. let f = Memᴰ·of-map cellOf (leaves u) (rw is at (l .is-held)) in subst Now (f .2) (now-left (f .0) (f .1)),
+            λ n. record { is-held = rw is (left-now d n); in-life = rw (set-clock .clock-is) (lives-now d n) },
+          );
+          as-long = stands-at-last s h stood-put set-clock fewer-put once-put .same-length;
+          rest-kept = rest-at-last s h stood-put set-clock fewer-put once-put;
+        }
+      where
+        Now : Cell → Type 0
+        Now d = (d ≡ cell) ⊎ Stays w minute id d
+
+        now-left : (y : Entry) → y ∈ leaves u → (cellOf y ≡ cell) ⊎ Stays w minute id (cellOf y)
+        now-left y m = ⊎-elim (λ (q : y ≡ x). inl (ap cellOf q ∙ cell-leaf cell)) (λ n. inr (left-stays y n)) (List·Memᴰ·cases-cons (same-entries (p .one-more) y m))
+
+        left-now : (d : Cell) → (d ≡ cell) ⊎ Stays w minute id d → d ∈ map cellOf (leaves u)
+        left-now d n =
+            ⊎-elim
+            (λ (q : d ≡ cell). subst (λ (y : Cell). y ∈ map cellOf (leaves u)) (cell-leaf cell ∙ sym q) (Memᴰ·map cellOf (same-entries (same-sym (p .one-more)) x (List·Memᴰ·head refl))))
+            (λ t. let f = Memᴰ·of-map cellOf (leaves v) (stays-left d t) in subst (λ (y : Cell). y ∈ map cellOf (leaves u)) (f .2) (Memᴰ·map cellOf (same-entries (same-sym (p .one-more)) (f .0) (List·Memᴰ·tail (f .1)))))
+            n
+
+        lives-now : (d : Cell) → (d ≡ cell) ⊎ Stays w minute id d → LivesAt minute d
+        lives-now d n = ⊎-elim (λ (q : d ≡ cell). subst (LivesAt minute) (sym q) lives) (λ t. t .lives) n

@@ -1,0 +1,35 @@
+use mathlib.Core.Path.{_≡_, sym, _∙_}
+use Rattle.whole.specs.Within.{back}
+use Rattle.table.specs.Header.{root, height, entriesAt}
+use Rattle.tree.specs.Weights.{weight-node}
+use Rattle.tree.specs.Staying.{stays}
+use Rattle.tree.specs.Outcomes.{can-count-root}
+use borrow.Author.Needs.{needs}
+use Rattle.tree.proofs.change.staying_in.Statement.{statement}
+use Rattle.tree.proofs.change.staying_in.Tie as tie
+
+place-at-requires : tie.Need-place-at-requires
+place-at-requires c κs = search needs
+
+place-at-requires-2 : tie.Need-place-at-requires-2
+place-at-requires-2 c κs = search needs
+
+-- ---- what the code knows at its places
+height-is : (c : tie.After-place-at) → c .place-at .result ≡ height (c .before .args .t .now)
+height-is c = c .place-at .ensures .0
+
+root-is : (c : tie.After-place-at2) → c .place-at2 .result ≡ root (c .before .before .args .t .now)
+root-is c = c .place-at2 .ensures .0
+
+staying-requires : tie.Need-staying-requires
+staying-requires c κs = simp (height-is (c .before), root-is c) (can-count-root (c .before .before .pre))
+
+returns : tie.Need-returns
+returns c =
+    let s = c .before .before .before in
+    let w = s .args .t .now in
+    (simp (back (s .fits .minute), back (s .fits .id), height-is (c .before .before), root-is (c .before)) at (c .staying .ensures)) ∙ sym (weight-node (entriesAt w) (stays (s .args .minute) (s .args .id)) (height w) (root w))
+
+pub staying-in-spec : {M : Type 1} → statement M
+staying-in-spec =
+    tie.close (tie.spec place-at-requires place-at-requires-2 staying-requires returns)
