@@ -9,8 +9,9 @@ use Rattle.sheet.specs.Sheet.{totalFor, cellNumbers}
 use Rattle.leafing.specs.NextLive.{Steps}
 use Rattle.leafing.specs.declared.search.Next.{Next}
 use Rattle.leafing.specs.declared.search.Next.the-variants.{One, None}
-use Rattle.reading.specs.Reads.{outcomeNumber, ReadsSheet}
-use Rattle.reading.specs.declared.Outcome.{Outcome}
+use Rattle.tree.specs.Outcomes.{outcomeNumber}
+use Rattle.reading.specs.Reads.{ReadsSheet}
+use Rattle.tree.specs.declared.outcome.Outcome.{Outcome}
 use Rattle.writing.specs.Written.{writtenNumber, writtenTotal, WritesSheet}
 use Rattle.writing.specs.declared.Written.{Written}
 

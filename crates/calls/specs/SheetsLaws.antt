@@ -6,9 +6,9 @@ use lib.IntN.{ℤ, pos}
 use Rattle.sheet.specs.Sheet.{cellNumbers}
 use Rattle.leafing.specs.NextLiveLaws.{steps-fixed}
 use Rattle.leafing.specs.declared.search.Next.{Next}
-use Rattle.reading.specs.Reads.{outcomeNumber}
+use Rattle.tree.specs.Outcomes.{outcomeNumber}
 use Rattle.reading.specs.ReadsLaws.{read-fixed}
-use Rattle.reading.specs.declared.Outcome.{Outcome}
+use Rattle.tree.specs.declared.outcome.Outcome.{Outcome}
 use Rattle.writing.specs.Written.{writtenNumber, writtenTotal}
 use Rattle.writing.specs.WrittenLaws.{written-same}
 use Rattle.writing.specs.declared.Written.{Written}

@@ -2,10 +2,10 @@
 use leafing::search::Next;
 use leafing::search::opening;
 use leafing::step_from;
-use reading::Outcome;
 use reading::read_sheet;
 use track::cell::Cell;
 use track::minute::Minute;
+use tree::outcome::Outcome;
 use words::number;
 use writing::Written;
 use writing::write_sheet;

@@ -14,9 +14,10 @@ use Rattle.sheet.specs.WellFormed.{RecordsSound, SheetSound}
 use Rattle.table.specs.Fresh.{freshReasons, IsFresh, MakesFresh}
 use Rattle.track.specs.declared.refusal.Refusal.{Refusal}
 use Rattle.leafing.specs.Leafed.{LiveCells}
-use Rattle.reading.specs.Reads.{readReasons, outcomeNumber, IsRead, ReadsSheet}
-use Rattle.reading.specs.declared.Outcome.{Outcome}
-use Rattle.reading.specs.declared.Outcome.the-variants.{Accepted, Refused}
+use Rattle.reading.specs.Reads.{readReasons, IsRead, ReadsSheet}
+use Rattle.tree.specs.Outcomes.{outcomeNumber}
+use Rattle.tree.specs.declared.outcome.Outcome.{Outcome}
+use Rattle.tree.specs.declared.outcome.Outcome.the-variants.{Accepted, Refused}
 
 -- what is read may be read: a sheet of at most so many cells, into words enough
 pub record CanRead (cells : ℤ) (w : List ℤ) (bytes : List ℕ) : Type 0 where

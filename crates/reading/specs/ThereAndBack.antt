@@ -20,9 +20,10 @@ use Rattle.writing.specs.Written.{writtenNumber, writtenTotal, Writes, WritesSh
 use Rattle.writing.specs.WrittenLaws.{write-accepted}
 use Rattle.writing.specs.declared.Written.{Written}
 use Rattle.writing.specs.SheetWritten.{written-sheet}
-use Rattle.reading.specs.Reads.{outcomeNumber, IsRead, ReadsSheet}
+use Rattle.reading.specs.Reads.{IsRead, ReadsSheet}
+use Rattle.tree.specs.Outcomes.{outcomeNumber}
 use Rattle.reading.specs.ReadsLaws.{CanRead, read-done, read-accepted, read-live}
-use Rattle.reading.specs.declared.Outcome.{Outcome}
+use Rattle.tree.specs.declared.outcome.Outcome.{Outcome}
 
 -- ---- a well-formed sheet that was read is written as it was, in the first bytes of any buffer that is long enough
 module _ {cells : ℤ} {w : List ℤ} {bytes : List ℕ} {v : List ℤ} (small : AreBytes bytes) (sheet : SheetSound mostCells bytes) (read : IsRead cells w bytes v) where

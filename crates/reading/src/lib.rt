@@ -10,16 +10,12 @@ use table::header::is_capacity;
 use table::header::words_for;
 use track::refusal::Refusal;
 use tree::header::set_clock;
+use tree::outcome::Outcome;
 use tree::root::put_cell;
 use words::place;
 ghost use Rattle.reading.specs.Reads.{IsRead, ReadsSheet};
 ghost use Rattle.reading.specs.ReadsLaws.{CanRead, Judges};
 ghost use Rattle.reading.specs.Filling.{CanFill, Filled};
-
-pub enum Outcome {
-    Accepted,
-    Refused(Refusal),
-}
 
 // Whether these bytes can be read into these words as a table for so many cells. All is judged before a word is written, so a refusal leaves the words alone.
 pub fn judge(t: &[i32], cells: i32, bytes: &[u8]) -> Outcome

@@ -2,8 +2,9 @@ use mathlib.Core.Path.{sym, ap, _∙_}
 use lib.IntN.{pos}
 use borrow.Author.Needs.{needs}
 use Rattle.whole.specs.Within.{back, word-back}
-use Rattle.reading.specs.Reads.{outcomeNumber, ReadsSheet}
-use Rattle.reading.specs.declared.Outcome.{Outcome}
+use Rattle.tree.specs.Outcomes.{outcomeNumber}
+use Rattle.reading.specs.Reads.{ReadsSheet}
+use Rattle.tree.specs.declared.outcome.Outcome.{Outcome}
 use Rattle.calls.proofs.sheets.bradawlet_read.Statement.{statement}
 use Rattle.calls.proofs.sheets.bradawlet_read.Tie as tie
 
