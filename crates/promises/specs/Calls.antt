@@ -7,13 +7,13 @@ use lib.Signed.{_≤ℤ_, _<ℤ_}
 use Rattle.track.specs.declared.query.Query.{Query}
 use Rattle.query.specs.Queried.{answerNumber, answerHits, Queried}
 use Rattle.query.specs.declared.answer.Answer.{Answer}
-use Rattle.tree.specs.Steps.{ReportSteps, DropSteps}
+use Rattle.tree.specs.Steps.{outcomeNumber, ReportSteps, DropSteps}
 use Rattle.leafing.specs.NextLive.{Steps}
 use Rattle.leafing.specs.declared.search.Next.{Next}
 use Rattle.writing.specs.Written.{writtenNumber, writtenTotal, WritesSheet}
 use Rattle.writing.specs.declared.Written.{Written}
-use Rattle.reading.specs.Reads.{outcomeNumber, ReadsSheet}
-use Rattle.reading.specs.declared.Outcome.{Outcome}
+use Rattle.reading.specs.Reads.{ReadsSheet}
+use Rattle.tree.specs.declared.outcome.Outcome.{Outcome}
 
 -- a call with all that is given to it but the table: numbers, the lent list, the lent bytes
 pub data Call : Type 0 where

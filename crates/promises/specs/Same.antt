@@ -26,7 +26,8 @@ use Rattle.leafing.specs.declared.search.Next.{Next}
 use Rattle.leafing.specs.declared.search.Next.the-variants.{One, None}
 use Rattle.writing.specs.Written.{writtenNumber, writtenTotal}
 use Rattle.writing.specs.WrittenLaws.{written-same}
-use Rattle.reading.specs.Reads.{readReasons, outcomeNumber, IsRead, ReadsSheet}
+use Rattle.reading.specs.Reads.{readReasons, IsRead, ReadsSheet}
+use Rattle.tree.specs.Steps.{outcomeNumber}
 use Rattle.alike.specs.Alike.{Alike}
 use Rattle.alike.specs.AlikeLaws.{alike-sym, hits-too, query-number, report-alike, drop-alike}
 use Rattle.promises.specs.Calls.{Call, Report, Drop, Window, Moving, Leaf, Write, Read, Reply, Number, Listed, Given, Bytes, Asked, Leafed, Wrote, WasRead, Happens, Run, no-call, one-call}

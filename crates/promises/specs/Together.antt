@@ -17,9 +17,9 @@ use Rattle.track.specs.declared.cell.Cell.{Cell}
 use Rattle.table.specs.Header.{capacityWord, clock}
 use Rattle.table.specs.Sound.{Sound, Live, held}
 use Rattle.table.specs.Fresh.{IsFresh}
-use Rattle.tree.specs.Steps.{Stays, Step, reportRefusals, LeftByReport, ReportSteps, dropRefusals, DropSteps}
+use Rattle.tree.specs.Steps.{outcomeNumber, Stays, Step, reportRefusals, LeftByReport, ReportSteps, dropRefusals, DropSteps}
 use Rattle.sheet.specs.Sheet.{clockOf, cellsOf}
-use Rattle.reading.specs.Reads.{readReasons, outcomeNumber, IsRead, ReadsSheet}
+use Rattle.reading.specs.Reads.{readReasons, IsRead, ReadsSheet}
 use Rattle.reading.specs.ReadsLaws.{read-live}
 use Rattle.promises.specs.Calls.{Call, Report, Drop, Window, Moving, Leaf, Write, Read, Reply, Number, Happens, Run, no-call, one-call}
 use Rattle.promises.specs.Model.{Model, LiveIn, fresh, differs, others, after, told, afterAll}
