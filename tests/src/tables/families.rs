@@ -5,6 +5,7 @@ mod answered;
 mod damaged;
 mod fresh;
 mod leafed;
+mod read;
 mod rubbish;
 mod sound;
 mod written;
@@ -21,6 +22,7 @@ pub fn run(library: &Library) -> Tally {
     answered::run(library, &mut tally);
     fresh::run(library, &mut tally);
     written::run(library, &mut tally);
+    read::run(library, &mut tally);
     leafed::run(library, &mut tally);
     tally
 }
