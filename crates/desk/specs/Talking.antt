@@ -1,16 +1,14 @@
 -- A piece is heard part by part.
-use mathlib.Core.Path.{_≡_, refl, sym, ap, _∙_}
+use mathlib.Core.Path.{_≡_}
 use mathlib.Core.List.{List, [], _++_, append-nil}
-use Prim.Native.Nat.{ℕ, zero, _+_, _-_, _≤_}
+use Prim.Native.Nat.{ℕ, _+_, _-_, _≤_}
 use native.Mathlib.Omega.{arith}
 use lib.IntN.{ℤ}
 use lib.ListN.{length, take, drop, length-drop}
 use lib.Seq.{take-all, take-add, take-length}
-use Rattle.feed.specs.Parting.{NoFeed}
 use Rattle.feed.specs.PartingLaws.{parted-rest}
-use Rattle.feed.specs.Held.{Held}
 use Rattle.answering.specs.Answered.{no-line}
-use Rattle.answering.specs.Served.{Heard, Serves}
+use Rattle.answering.specs.Served.{Serves}
 use Rattle.answering.specs.Serving.{heard-then}
 use Rattle.desk.specs.Talked.{HearsAll}
 

@@ -3,7 +3,6 @@ use Prim.Native.Nat.{_-_}
 use native.Mathlib.Omega.{arith}
 use lib.ListN.{length}
 use Rattle.answering.specs.Serving.{SoFar, so-far-none, so-far-next, so-far-serves, some-taken}
-use borrow.Author.Needs.{needs}
 use Rattle.answering.proofs.serving.serve.Statement.{statement}
 use Rattle.answering.proofs.serving.serve.Tie as tie
 
