@@ -12,6 +12,7 @@ pub const OUT_OF_RANGE: i32 = 4;
 pub const TOO_EARLY: i32 = 5;
 pub const EXPIRED_AT_REPORT: i32 = 6;
 pub const BACKWARD: i32 = 7;
+pub const NOT_LIVE: i32 = 8;
 pub const FULL: i32 = 9;
 pub const LIST_TOO_SHORT: i32 = 10;
 pub const BAD_HEADER: i32 = 11;

@@ -3,3 +3,4 @@ pub mod Tables
 pub mod TablesLaws
 pub mod Sheets
 pub mod SheetsLaws
+pub mod Changes

@@ -9,7 +9,7 @@ use Rattle.sheet.specs.Sheet.{totalFor, cellNumbers}
 use Rattle.leafing.specs.NextLive.{Steps}
 use Rattle.leafing.specs.declared.search.Next.{Next}
 use Rattle.leafing.specs.declared.search.Next.the-variants.{One, None}
-use Rattle.tree.specs.Outcomes.{outcomeNumber}
+use Rattle.tree.specs.Steps.{outcomeNumber}
 use Rattle.reading.specs.Reads.{ReadsSheet}
 use Rattle.tree.specs.declared.outcome.Outcome.{Outcome}
 use Rattle.writing.specs.Written.{writtenNumber, writtenTotal, WritesSheet}

@@ -6,7 +6,7 @@ use lib.IntN.{ℤ, pos}
 use Rattle.sheet.specs.Sheet.{cellNumbers}
 use Rattle.leafing.specs.NextLiveLaws.{steps-fixed}
 use Rattle.leafing.specs.declared.search.Next.{Next}
-use Rattle.tree.specs.Outcomes.{outcomeNumber}
+use Rattle.tree.specs.Steps.{outcomeNumber}
 use Rattle.reading.specs.ReadsLaws.{read-fixed}
 use Rattle.tree.specs.declared.outcome.Outcome.{Outcome}
 use Rattle.writing.specs.Written.{writtenNumber, writtenTotal}

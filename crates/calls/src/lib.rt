@@ -14,6 +14,7 @@ ghost use Rattle.query.specs.Few.{Few};
 ghost use Rattle.calls.specs.Moving.{movingAnswers};
 ghost use Rattle.calls.specs.Tables.{FreshGives, InNumbers, QueryGives};
 
+pub mod changes;
 pub mod sheets;
 
 // Whether the cell of a report meets a moving query: 1 for yes, 0 for no, else the refusal's number.

@@ -14,7 +14,7 @@ use Rattle.table.specs.Fresh.{freshReasons}
 use Rattle.table.specs.Sound.{Sound, held}
 use Rattle.sheet.specs.Sheet.{mostCells, countOf, clockOf, cellsOf}
 use Rattle.sheet.specs.WellFormed.{HeaderSound, RecordsSound}
-use Rattle.tree.specs.Outcomes.{outcomeNumber}
+use Rattle.tree.specs.Steps.{outcomeNumber}
 use Rattle.tree.specs.declared.outcome.Outcome.{Outcome}
 
 -- why the bytes are not read into the words w as a table for so many cells, in the order in which it is tried: as for a fresh table, then the sheet's own

@@ -15,7 +15,7 @@ use Rattle.table.specs.Fresh.{freshReasons, IsFresh, MakesFresh}
 use Rattle.track.specs.declared.refusal.Refusal.{Refusal}
 use Rattle.leafing.specs.Leafed.{LiveCells}
 use Rattle.reading.specs.Reads.{readReasons, IsRead, ReadsSheet}
-use Rattle.tree.specs.Outcomes.{outcomeNumber}
+use Rattle.tree.specs.Steps.{outcomeNumber}
 use Rattle.tree.specs.declared.outcome.Outcome.{Outcome}
 use Rattle.tree.specs.declared.outcome.Outcome.the-variants.{Accepted, Refused}
 

@@ -21,7 +21,7 @@ use Rattle.writing.specs.WrittenLaws.{write-accepted}
 use Rattle.writing.specs.declared.Written.{Written}
 use Rattle.writing.specs.SheetWritten.{written-sheet}
 use Rattle.reading.specs.Reads.{IsRead, ReadsSheet}
-use Rattle.tree.specs.Outcomes.{outcomeNumber}
+use Rattle.tree.specs.Steps.{outcomeNumber}
 use Rattle.reading.specs.ReadsLaws.{CanRead, read-done, read-accepted, read-live}
 use Rattle.tree.specs.declared.outcome.Outcome.{Outcome}
 

@@ -1,4 +1,4 @@
--- The numbers of the outcomes, and what the code of a report and of a drop knows on its ways.
+-- What the code of a report and of a drop knows on its ways: one law for each.
 use mathlib.Core.Path.{_≡_, refl, sym, ap, _∙_, subst}
 use mathlib.Core.Logic.{_⊎_, inl, inr, ⊎-elim}
 use mathlib.Core.List.{List, [], _∷_, _++_}
@@ -32,12 +32,6 @@ use Rattle.tree.specs.Steps.{Stays, IsThere, NoRoom, Step, LeftByReport,
 use Rattle.tree.specs.Staying.{CanCount}
 use Rattle.tree.specs.StayingLaws.{manyStay, no-more-room, more-room, is-there, not-there}
 use Rattle.tree.specs.Stepping.{sound-ample, sound-holding, left-many, drop-step, report-step}
-use Rattle.tree.specs.declared.outcome.Outcome.{Outcome}
-use Rattle.tree.specs.declared.outcome.Outcome.the-variants.{Accepted, Refused}
-
-abbrev pub outcomeNumber : Outcome → ℕ
-outcomeNumber Accepted = 0
-outcomeNumber (Refused r) = number r
 
 -- ---- the count of the cells that stay is taken from the root
 pub can-count-root : {w : List ℤ} → Sound w → CanCount w (height w) (root w)

@@ -9,11 +9,18 @@ use lib.Signed.{_<ℤ_}
 use Rattle.whole.specs.Lists.{_∈_, NoRepeat}
 use Rattle.track.specs.Numbers.{IsMinute, IsIdentifier}
 use Rattle.track.specs.Life.{LivesAt}
-use Rattle.track.specs.Refusals.{Reason, _when_, First}
+use Rattle.track.specs.Refusals.{Reason, _when_, First, number}
 use Rattle.track.specs.Report.{reportReasons, keptCell}
 use Rattle.track.specs.declared.cell.Cell.{Cell}
 use Rattle.table.specs.Header.{capacityWord, capacity, clock, wordsFor}
 use Rattle.table.specs.Sound.{held, Live, Sound}
+use Rattle.tree.specs.declared.outcome.Outcome.{Outcome}
+use Rattle.tree.specs.declared.outcome.Outcome.the-variants.{Accepted, Refused}
+
+-- each outcome's number: 0, or the refusal's
+abbrev pub outcomeNumber : Outcome → ℕ
+outcomeNumber Accepted = 0
+outcomeNumber (Refused r) = number r
 
 -- c is held, lives at the minute, and is another cell than the one with this identifier
 pub record Stays (w : List ℤ) (minute id : ℤ) (c : Cell) : Type 0 where

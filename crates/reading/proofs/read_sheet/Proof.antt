@@ -1,7 +1,7 @@
 use Rattle.whole.specs.Within.{back}
 use Rattle.reading.specs.ReadsLaws.{Judges, reads-refused, reads-accepted}
 use mathlib.Core.Path.{ap}
-use Rattle.tree.specs.Outcomes.{outcomeNumber}
+use Rattle.tree.specs.Steps.{outcomeNumber}
 use borrow.Author.Needs.{needs}
 use Rattle.reading.proofs.read_sheet.Statement.{statement}
 use Rattle.reading.proofs.read_sheet.Tie as tie

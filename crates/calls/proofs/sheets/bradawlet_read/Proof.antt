@@ -2,7 +2,7 @@ use mathlib.Core.Path.{sym, ap, _∙_}
 use lib.IntN.{pos}
 use borrow.Author.Needs.{needs}
 use Rattle.whole.specs.Within.{back, word-back}
-use Rattle.tree.specs.Outcomes.{outcomeNumber}
+use Rattle.tree.specs.Steps.{outcomeNumber}
 use Rattle.reading.specs.Reads.{ReadsSheet}
 use Rattle.tree.specs.declared.outcome.Outcome.{Outcome}
 use Rattle.calls.proofs.sheets.bradawlet_read.Statement.{statement}

@@ -1,0 +1,31 @@
+// The calls that change a table.
+use tree::change::drop;
+use tree::change::report;
+ghost use Rattle.calls.specs.Changes.{ReportGives, DropGives};
+
+// Puts a cell in, in the place of a live one of the same identifier: 0, or the refusal's number.
+#[no_mangle]
+pub extern "C" fn bradawlet_report(
+    table: &mut [i32],
+    id: i32,
+    x: i32,
+    y: i32,
+    vx: i32,
+    vy: i32,
+    minute: i32,
+    expiry: i32,
+) -> i32
+    ensures { λ r. ⌜ ReportGives (now (table .entry)) id x y vx vy minute expiry r (now (table .exit)) ⌝ }
+{
+    let outcome = report(table, id, x, y, vx, vy, minute, expiry);
+    outcome.number()
+}
+
+// Takes a live cell out: 0, or the refusal's number.
+#[no_mangle]
+pub extern "C" fn bradawlet_drop(table: &mut [i32], id: i32, minute: i32) -> i32
+    ensures { λ r. ⌜ DropGives (now (table .entry)) id minute r (now (table .exit)) ⌝ }
+{
+    let outcome = drop(table, id, minute);
+    outcome.number()
+}
