@@ -6,7 +6,6 @@ use Prim.Native.Nat.{ℕ}
 use native.Mathlib.Decide.{ℕ-discrete}
 use native.Mathlib.Omega.{arith}
 use lib.IntN.{ℤ, pos, _-ℤ_, _*ℤ_}
-use lib.ListN.{length}
 use lib.Signed.{_≤ℤ_, _<ℤ_}
 use Rattle.whole.specs.Lists.{_∈_}
 use Rattle.whole.specs.Order.{≤ℤ-trans, ≤ℤ-or-<ℤ, of-gap, gap-of, cancel, ring}
@@ -15,13 +14,13 @@ use Rattle.track.specs.Life.{LivesAt}
 use Rattle.track.specs.Meets.{CellMeets}
 use Rattle.track.specs.Query.{queryReasons}
 use Rattle.track.specs.Refusals.{Reason, _when_, First, first-fixed}
-use Rattle.track.specs.Report.{reportReasons, keptCell}
+use Rattle.track.specs.Report.{keptCell}
 use Rattle.track.specs.declared.cell.Cell.{Cell}
 use Rattle.track.specs.declared.query.Query.{Query}
-use Rattle.table.specs.Header.{capacityWord, capacity, clock}
+use Rattle.table.specs.Header.{clock}
 use Rattle.table.specs.Sound.{held, Live, Sound}
 use Rattle.table.specs.Fresh.{IsFresh}
-use Rattle.tree.specs.Steps.{Stays, IsThere, NoRoom, Step, reportRefusals, LeftByReport, ReportSteps, dropRefusals, DropSteps}
+use Rattle.tree.specs.Steps.{Stays, IsThere, NoRoom, Step, reportRefusals, ReportSteps, dropRefusals, DropSteps}
 use Rattle.query.specs.Hits.{Hit, Hits, MoreHits}
 use Rattle.query.specs.QueriedLaws.{hits-fixed}
 use Rattle.alike.specs.Alike.{Alike}

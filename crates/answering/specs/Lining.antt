@@ -10,9 +10,8 @@ use Rattle.lines.specs.declared.Line.{Line}
 use Rattle.lines.specs.declared.Line.the-variants.{Bad}
 use Rattle.feed.specs.Held.{Held}
 use Rattle.feed.specs.HeldLaws.{held-whole, held-over}
-use Rattle.spelling.specs.Answers.{badLine, Written}
+use Rattle.spelling.specs.Answers.{badLine}
 use Rattle.answering.specs.Answered.{longestLine, IsLine, FormLine, Answered}
-use Rattle.answering.specs.Writing.{written-as}
 
 pub short-line : {line : List ℕ} {f : Line} → length line ≤ longestLine → Reads line f → IsLine line f
 short-line h reads = record { short = λ k. reads; long = λ k. absurd (omega arith) }

@@ -7,11 +7,11 @@ use native.Mathlib.Omega.{arith}
 use lib.IntN.{ℤ}
 use lib.ListN.{length, getD, take, drop, length-append, length-drop, drop-of-length-le}
 use borrow.Rule.Slice.PartMut.{putMid}
-use lib.Seq.{take-suc, take-at, take-all, take-nil, length-take-le}
-use Rattle.feed.specs.Parting.{lineFeed, NoFeed, Parted, lastLine}
+use lib.Seq.{take-suc, take-at, drop-at, drop-drop, take-all, take-nil, length-take-le}
+use Rattle.feed.specs.Parting.{lineFeed, NoFeed, lastLine}
 use Rattle.feed.specs.PartingLaws.{parted-rest, parted-byte, parted-feed, parted-then}
 use Rattle.feed.specs.Held.{Held, KeepsByte}
-use Rattle.feed.specs.HeldLaws.{held-none, held-some, held-whole, held-over}
+use Rattle.feed.specs.HeldLaws.{held-none, held-some, held-whole}
 use Rattle.spelling.specs.Answers.{Written}
 use Rattle.answering.specs.Answered.{longestLine, Answered, Session, no-line, and-line}
 use Rattle.answering.specs.Served.{Heard, Serves, Ends}
@@ -27,6 +27,8 @@ pub record TakesByte (b : ℕ) (t : List ℤ) (buffer : List ℕ) (held : ℕ) (
   pub hears : (w : List ℤ) (begun bytes : List ℕ) → Heard w begun bytes t (take written out) buffer held → Heard w begun (bytes ++ b ∷ []) t′ (take written′ out′) buffer′ held′
   pub held-in : held′ ≤ length buffer′
   pub written-in : written′ ≤ length out′
+  pub onward : written ≤ written′
+  pub rest-kept : drop written′ out′ ≡ drop written′ out
 
 pub heard-byte : {b : ℕ} {t : List ℤ} {buffer buffer′ : List ℕ} {held held′ : ℕ} {out : List ℕ} {written : ℕ} → (b ≡ lineFeed → ⊥) → held ≤ length buffer → written ≤ length out
     → KeepsByte buffer held b buffer′ held′ → TakesByte b t buffer held out written t buffer′ held′ out written
@@ -40,17 +42,20 @@ heard-byte {b} {buffer} {held} other few inside keeps = record {
   };
   held-in = keeps (take held buffer) (held-some buffer held few) .inside;
   written-in = inside;
+  onward = omega arith;
+  rest-kept = refl;
 }
 
 -- an answer written behind those before it
 written-behind : {P : List ℕ → Type 0} (out : List ℕ) (at : ℕ) {after : List ℕ} {r : ℕ} → at ≤ length out → (p : Written P (drop at out) after r)
-    → (take (at + r) (take at out ++ after) ≡ take at out ++ p .line) × (at + r ≤ length (take at out ++ after))
+    → (take (at + r) (take at out ++ after) ≡ take at out ++ p .line) × (at + r ≤ length (take at out ++ after)) × (drop (at + r) (take at out ++ after) ≡ drop (at + r) out)
 written-behind out at {after} {r} inside p =
     let front = length-take-le at out inside in
     let both : length (take at out ++ p .line) ≡ at + r = length-append (take at out) (p .line) ∙ omega (arith, front, p .long) in
     let whole : take at out ++ after ≡ (take at out ++ p .line) ++ drop r (drop at out) = ap (λ (l : List ℕ). take at out ++ l) (p .is) ∙ sym (append-assoc (take at out) (p .line) (drop r (drop at out))) in (
       ap (take (at + r)) whole ∙ take-at (take at out ++ p .line) (drop r (drop at out)) (at + r) both,
       omega (arith, ap length whole, length-append (take at out ++ p .line) (drop r (drop at out)), both),
+      ap (drop (at + r)) whole ∙ drop-at (take at out ++ p .line) (drop r (drop at out)) (at + r) both ∙ drop-drop r at out,
     )
 
 pub heard-feed : {b : ℕ} {t u : List ℤ} {buffer : List ℕ} {held : ℕ} {out after : List ℕ} {written r : ℕ} → b ≡ lineFeed → held ≤ length buffer → written ≤ length out
@@ -67,6 +72,8 @@ heard-feed {b} {t} {u} {buffer} {held} {out} {after} {written} {r} feed few insi
       };
   held-in = omega arith;
   written-in = written-behind out written inside (answers (take held buffer) (held-some buffer held few)) .1;
+  onward = omega arith;
+  rest-kept = written-behind out written inside (answers (take held buffer) (held-some buffer held few)) .2;
 }
 
 -- the same as the code has it: the buffer is lent from a place on, and comes back
@@ -88,36 +95,45 @@ answer-fits {buffer} {held} few answers = answers (take held buffer) (held-some 
 
 -- ---- a piece, byte by byte
 -- what holds after i bytes of the piece
-pub record SoFar (w : List ℤ) (buffer : List ℕ) (held : ℕ) (piece : List ℕ) (i : ℕ) (v : List ℤ) (buffer′ : List ℕ) (held′ : ℕ) (out : List ℕ) (written : ℕ) : Type 0 where
+pub record SoFar (w : List ℤ) (buffer : List ℕ) (held : ℕ) (piece out₀ : List ℕ) (i : ℕ) (v : List ℤ) (buffer′ : List ℕ) (held′ : ℕ) (out : List ℕ) (written : ℕ) : Type 0 where
   pub hears : (begun : List ℕ) → NoFeed begun → Held buffer held begun → Heard w begun (take i piece) v (take written out) buffer′ held′
   pub taken-in : i ≤ length piece
   pub none-yet : i ≡ 0 → written ≡ 0
   pub held-in : held′ ≤ length buffer′
   pub written-in : written ≤ length out
+  pub rest-kept : drop written out ≡ drop written out₀
 
-pub so-far-none : (w : List ℤ) (buffer : List ℕ) (held : ℕ) (piece out : List ℕ) → held ≤ length buffer → SoFar w buffer held piece 0 w buffer held out 0
+pub so-far-none : (w : List ℤ) (buffer : List ℕ) (held : ℕ) (piece out : List ℕ) → held ≤ length buffer → SoFar w buffer held piece out 0 w buffer held out 0
 so-far-none w buffer held piece out few = record {
   hears = λ begun clean h. record { lines = []; rest = begun; parted = rw append-nil (parted-rest clean); session = no-line; holds = h };
   taken-in = omega arith;
   none-yet = λ e. refl;
   held-in = few;
   written-in = omega arith;
+  rest-kept = refl;
 }
 
-module _ {w : List ℤ} {buffer : List ℕ} {held : ℕ} {piece : List ℕ} {i : ℕ} {t : List ℤ} {buffer′ : List ℕ} {held′ : ℕ} {out : List ℕ} {written : ℕ}
-    (s : SoFar w buffer held piece i t buffer′ held′ out written) where
+-- what is the same from a place on is so from any later one on
+dropped-on : (a b : ℕ) (x y : List ℕ) → a ≤ b → drop a x ≡ drop a y → drop b x ≡ drop b y
+dropped-on a b x y h e =
+    let k : a + (b - a) ≡ b = omega arith in
+    rw k at (sym (drop-drop (b - a) a x) ∙ ap (drop (b - a)) e ∙ drop-drop (b - a) a y)
+
+module _ {w : List ℤ} {buffer : List ℕ} {held : ℕ} {piece out₀ : List ℕ} {i : ℕ} {t : List ℤ} {buffer′ : List ℕ} {held′ : ℕ} {out : List ℕ} {written : ℕ}
+    (s : SoFar w buffer held piece out₀ i t buffer′ held′ out written) where
   pub so-far-next : {t″ : List ℤ} {buffer″ : List ℕ} {held″ : ℕ} {out″ : List ℕ} {written″ : ℕ} → i < length piece
-      → TakesByte (getD piece i 0) t buffer′ held′ out written t″ buffer″ held″ out″ written″ → SoFar w buffer held piece (i + 1) t″ buffer″ held″ out″ written″
-  so-far-next lt takes = record {
+      → TakesByte (getD piece i 0) t buffer′ held′ out written t″ buffer″ held″ out″ written″ → SoFar w buffer held piece out₀ (i + 1) t″ buffer″ held″ out″ written″
+  so-far-next {written″} lt takes = record {
     hears = λ begun clean h. rw (add-one, take-suc piece i 0 lt) (takes .hears w begun (take i piece) (s .hears begun clean h));
     taken-in = omega arith;
     none-yet = λ e. absurd (omega arith);
     held-in = takes .held-in;
     written-in = takes .written-in;
+    rest-kept = takes .rest-kept ∙ dropped-on written written″ out out₀ (takes .onward) (s .rest-kept);
   }
 
-  pub so-far-serves : (0 < length piece → 0 < i) → Serves w buffer held piece t buffer′ held′ out i written
-  so-far-serves some = record { hears = s .hears; taken-in = s .taken-in; forward = some; held-in = s .held-in; written-in = s .written-in }
+  pub so-far-serves : (0 < length piece → 0 < i) → Serves w buffer held piece out₀ t buffer′ held′ out i written
+  so-far-serves some = record { hears = s .hears; taken-in = s .taken-in; forward = some; held-in = s .held-in; written-in = s .written-in; rest-kept = s .rest-kept }
 
   -- with room for an answer at the start, a byte was taken
   pub some-taken : {longest : ℕ} → longest ≤ length out → length out - written < longest → 0 < i
@@ -145,18 +161,24 @@ heard-then {begun} {p} {q} h k = record {
 
 -- ---- the end of the input
 module _ {buffer : List ℕ} {held : ℕ} (places : length buffer ≡ longestLine + 1) where
-  pub ends-without : (w : List ℤ) (out : List ℕ) → held ≡ 0 → Ends w buffer held w out 0
-  ends-without w out none = record { answers = λ rest h. nothing rest h; written-in = omega arith }
+  pub ends-without : (w : List ℤ) (out : List ℕ) → held ≡ 0 → Ends w buffer held out w out 0
+  ends-without w out none = record { answers = λ rest h. nothing rest h; written-in = omega arith; rest-kept = refl }
     where
       nothing : (rest : List ℕ) → Held buffer held rest → Session w (lastLine rest) w []
       nothing [] h = no-line
       nothing (b ∷ rest) h = absurd (omega (arith, ap length (held-whole h (omega arith)), ap (λ (n : ℕ). length (take n buffer)) none))
 
-  pub ends-with : {w v : List ℤ} {before after : List ℕ} {r : ℕ} → held ≤ length buffer → (held ≡ 0 → ⊥) → AnswersHeld buffer held w v before after r → Ends w buffer held v after r
-  ends-with {w} {v} {before} {after} {r} few some answers = record { answers = λ rest h. one rest h; written-in = fits (answers (take held buffer) (held-some buffer held few)) }
+  pub ends-with : {w v : List ℤ} {before after : List ℕ} {r : ℕ} → held ≤ length buffer → (held ≡ 0 → ⊥) → AnswersHeld buffer held w v before after r → Ends w buffer held before v after r
+  ends-with {w} {v} {before} {after} {r} few some answers = record { answers = λ rest h. one rest h; written-in = fits some-answer; rest-kept = kept some-answer }
     where
       whole : {P : List ℕ → Type 0} → (p : Written P before after r) → take r after ≡ p .line
       whole p = ap (take r) (p .is) ∙ take-at (p .line) (drop r before) r (sym (p .long))
+
+      some-answer : Written (Answered w (take held buffer) v) before after r
+      some-answer = answers (take held buffer) (held-some buffer held few)
+
+      kept : {P : List ℕ → Type 0} → Written P before after r → drop r after ≡ drop r before
+      kept p = ap (drop r) (p .is) ∙ drop-at (p .line) (drop r before) r (sym (p .long))
 
       fits : {P : List ℕ → Type 0} → Written P before after r → r ≤ length after
       fits p = omega (arith, p .long, ap length (p .is), length-append (p .line) (drop r before))

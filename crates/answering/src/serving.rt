@@ -58,7 +58,7 @@ pub fn serve(
     out: &mut [u8],
 ) -> Progress
     requires { ⌜ CanServe (now list) (now buffer) held (now out) ⌝ }
-    ensures { λ r. ⌜ Serves (now (t .entry)) (now (buffer .entry)) held (now (piece .entry)) (now (t .exit)) (now (buffer .exit)) (r .place .held) (now (out .exit)) (r .taken) (r .place .written) ⌝ }
+    ensures { λ r. ⌜ Serves (now (t .entry)) (now (buffer .entry)) held (now (piece .entry)) (now (out .entry)) (now (t .exit)) (now (buffer .exit)) (r .place .held) (now (out .exit)) (r .taken) (r .place .written) ⌝ }
 {
     let mut place = Place { held, written: 0 };
     let mut i = 0;
@@ -83,7 +83,7 @@ pub fn serve(
 // What is held when the input ends is a line, if there is any.
 pub fn end(t: &mut [i32], list: &mut [i32], buffer: &[u8], held: usize, out: &mut [u8]) -> usize
     requires { ⌜ CanServe (now list) (now buffer) held (now out) ⌝ }
-    ensures { λ r. ⌜ Ends (now (t .entry)) (now (buffer .entry)) held (now (t .exit)) (now (out .exit)) r ⌝ }
+    ensures { λ r. ⌜ Ends (now (t .entry)) (now (buffer .entry)) held (now (out .entry)) (now (t .exit)) (now (out .exit)) r ⌝ }
 {
     if held == 0 {
         return 0;

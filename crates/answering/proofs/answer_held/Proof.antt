@@ -1,7 +1,5 @@
-use mathlib.Core.Path.{_∙_, sym}
-use Prim.Native.Nat.{_≤_}
+use mathlib.Core.Path.{sym}
 use native.Mathlib.Omega.{arith}
-use lib.ListN.{length}
 use lib.Seq.{length-take-le}
 use Rattle.answering.specs.Lining.{too-long, whole-line}
 use Rattle.answering.specs.Writing.{written-as}

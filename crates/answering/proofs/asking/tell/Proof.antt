@@ -1,8 +1,5 @@
-use mathlib.Core.Path.{subst, ap, _∙_}
-use Prim.Native.Nat.{_≤_}
+use mathlib.Core.Path.{subst, _∙_}
 use native.Mathlib.Omega.{arith}
-use lib.IntN.{pos}
-use lib.ListN.{length}
 use Rattle.whole.specs.Within.{word-back}
 use Rattle.answering.specs.Asking.{InList}
 use borrow.Author.Needs.{needs}

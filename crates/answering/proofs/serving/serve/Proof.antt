@@ -3,13 +3,12 @@ use Prim.Native.Nat.{_-_}
 use native.Mathlib.Omega.{arith}
 use lib.ListN.{length}
 use Rattle.answering.specs.Serving.{SoFar, so-far-none, so-far-next, so-far-serves, some-taken}
-use borrow.Author.Needs.{needs}
 use Rattle.answering.proofs.serving.serve.Statement.{statement}
 use Rattle.answering.proofs.serving.serve.Tie as tie
 
 abbrev Inv-loop : tie.InvT-loop
 Inv-loop t₀ list₀ buffer₀ held piece out₀ place₀ i₀ t list buffer out place i =
-    (length t ≡ length t₀) × (length list ≡ length list₀) × (length buffer ≡ length buffer₀) × (length out ≡ length out₀) × SoFar t₀ buffer₀ held piece i t buffer (place .held) out (place .written)
+    (length t ≡ length t₀) × (length list ≡ length list₀) × (length buffer ≡ length buffer₀) × (length out ≡ length out₀) × SoFar t₀ buffer₀ held piece out₀ i t buffer (place .held) out (place .written)
 
 abbrev μ-loop : tie.MeasureT-loop
 μ-loop t₀ list₀ buffer₀ held piece out₀ place₀ i₀ t list buffer out place i = length piece - i
