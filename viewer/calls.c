@@ -1,6 +1,7 @@
 /*
- * Makes fresh tables, asks them, writes and reads their sheets and leafs through
- * them, from C: every number that these calls give.
+ * Makes fresh tables, reports to them and drops from them, asks them, writes and
+ * reads their sheets and leafs through them, from C: every number that these
+ * calls give.
  * Prints a line for each check that fails, and last the counts.
  */
 #include "calls.h"
@@ -43,6 +44,13 @@ static int32_t *rubbish(size_t words)
     for (size_t i = 0; i < words; i++)
         memory[i] = RUBBISH;
     return memory;
+}
+
+static int32_t *copy(const int32_t *table, size_t words)
+{
+    int32_t *other = rubbish(words);
+    memcpy(other, table, words * sizeof *table);
+    return other;
 }
 
 static bool all_rubbish(const int32_t *memory, size_t words)
@@ -94,8 +102,7 @@ static void check_query(const char *name, const int32_t *table, size_t words, si
                         struct query q, struct answer expected, const int32_t *identifiers)
 {
     size_t written = expected.number == BRADAWLET_DONE ? (size_t)expected.hits : 0;
-    int32_t *before = rubbish(words);
-    memcpy(before, table, words * sizeof *table);
+    int32_t *before = copy(table, words);
     for (int kind = 0; kind < 2; kind++) {
         int32_t *list = rubbish(places);
         struct answer a = (kind == 0 ? window : moving)(table, words, list, places, q);
@@ -244,7 +251,7 @@ static void check_reads(const uint8_t two[BRADAWLET_SHEET(2)])
     check_read("a sheet read", words, CELLS, two, total, BRADAWLET_DONE);
     check_read("a sheet read, words left", words + EXTRA, CELLS, two, total, BRADAWLET_DONE);
     check_read("as many cells as it is for", words, 2, two, total, BRADAWLET_DONE);
-    check_read("9: a cell too many", words, 1, two, total, BRADAWLET_TOO_MANY_CELLS);
+    check_read("9: a cell too many", words, 1, two, total, BRADAWLET_FULL);
     check_read("2: no such capacity", words, 0, two, total, BRADAWLET_NO_SUCH_CAPACITY);
     check_read("2 before 3", 0, 257, two, total, BRADAWLET_NO_SUCH_CAPACITY);
     check_read("3: a word too few", words - 1, CELLS, two, total, BRADAWLET_TABLE_TOO_SHORT);
@@ -257,7 +264,7 @@ static void check_reads(const uint8_t two[BRADAWLET_SHEET(2)])
     memcpy(wrong, two, total);
     wrong[16] = 0;
     check_read("12: identifier 0", words, CELLS, wrong, total, BRADAWLET_BAD_RECORD);
-    check_read("9 before 12", words, 1, wrong, total, BRADAWLET_TOO_MANY_CELLS);
+    check_read("9 before 12", words, 1, wrong, total, BRADAWLET_FULL);
     memcpy(wrong, two, total);
     wrong[36] = 9;
     check_read("12: expired", words, CELLS, wrong, total, BRADAWLET_BAD_RECORD);
@@ -313,6 +320,103 @@ static void check_sheets(void)
     check_reads(two);
 }
 
+/* Compares the table after a call with what it was: the clock is set, or not a word is touched. */
+static void check_left(const char *name, const int32_t *table, size_t words, int32_t *before,
+                       int32_t number, int32_t minute)
+{
+    size_t need = BRADAWLET_WORDS(before[0]);
+    if (number == BRADAWLET_DONE) {
+        check(name, table[0] == before[0] && table[1] == minute);
+        check(name, bradawlet_open(table, words) == BRADAWLET_DONE);
+        check(name, all_rubbish(table + need, words - need));
+    } else {
+        check(name, memcmp(table, before, words * sizeof *table) == 0);
+    }
+    free(before);
+}
+
+/* A report is identifier, x, y, x velocity, y velocity, minute and expiry. */
+static void check_report(const char *name, int32_t *table, size_t words, const int32_t r[7],
+                         int32_t number)
+{
+    int32_t *before = copy(table, words);
+    check(name, bradawlet_report(table, words, r[0], r[1], r[2], r[3], r[4], r[5], r[6]) == number);
+    check_left(name, table, words, before, number, r[5]);
+}
+
+static void check_drop(const char *name, int32_t *table, size_t words, int32_t id, int32_t minute,
+                       int32_t number)
+{
+    int32_t *before = copy(table, words);
+    check(name, bradawlet_drop(table, words, id, minute) == number);
+    check_left(name, table, words, before, number, minute);
+}
+
+/* A window is start, end, xlow, xhigh, ylow and yhigh; its hit, if there is one, is this cell. */
+static void check_window(const char *name, const int32_t *table, size_t words, const int32_t w[6],
+                         int32_t number, int32_t hit)
+{
+    int32_t list[PLACES] = {0};
+    struct query q = {w[0], w[1], {w[2], w[3], w[4], w[5]}, {0, 0, 0, 0}};
+    struct answer a = window(table, words, list, PLACES, q);
+    check(name, a.number == number && a.hits == (hit > 0) && list[0] == hit);
+}
+
+/* A whole run of the desk program, by calls. */
+static void check_desk_run(void)
+{
+    const size_t words = BRADAWLET_WORDS(256) + EXTRA;
+    int32_t *table = rubbish(words);
+    check("a fresh table", bradawlet_fresh(table, words, 256) == BRADAWLET_DONE);
+    check_report("cell 7", table, words, (int32_t[7]){7, 100, 200, 5, -3, 10, 40}, 0);
+    check_report("cell 9", table, words, (int32_t[7]){9, 0, 0, 3, 3, 10, 30}, 0);
+    check_window("7 at 20", table, words, (int32_t[6]){20, 20, 150, 150, 170, 170}, 0, 7);
+    check_window("9 at a third", table, words, (int32_t[6]){10, 11, 1, 1, 1, 1}, 0, 9);
+    check_window("5: before 10", table, words, (int32_t[6]){9, 11, 0, 1, 0, 1}, 5, 0);
+    check_drop("8: 9 has expired", table, words, 9, 31, BRADAWLET_NOT_LIVE);
+    check_window("the clock is still 10", table, words, (int32_t[6]){10, 10, 0, 0, 0, 0}, 0, 9);
+    check_report("6: expired", table, words, (int32_t[7]){9, 0, 0, 0, 0, 12, 11}, 6);
+    check_drop("7 dropped", table, words, 7, 12, 0);
+    check_window("9 alone", table, words, (int32_t[6]){12, 40, -500, 500, -500, 500}, 0, 9);
+    check_window("7: transposed", table, words, (int32_t[6]){40, 12, 0, 1, 0, 1}, 7, 0);
+    free(table);
+}
+
+static void check_full(void)
+{
+    const size_t words = BRADAWLET_WORDS(CELLS) + EXTRA;
+    const int32_t other[7] = {INT32_MAX, 0, 0, 512, -512, 20, 1440};
+    int32_t *table = rubbish(words);
+    check("a fresh table", bradawlet_fresh(table, words, CELLS) == BRADAWLET_DONE);
+    for (int32_t id = 1; id <= CELLS; id++)
+        check_report("filled", table, words, (int32_t[7]){id, 100 * id, 0, 1, 0, 20, 30}, 0);
+    check_report("9: full", table, words, other, BRADAWLET_FULL);
+    check_report("6 before 9", table, words, (int32_t[7]){50, 0, 0, 0, 0, 20, 19}, 6);
+    check_report("5 before 6", table, words, (int32_t[7]){50, 0, 0, 0, 0, 19, 18}, 5);
+    check_report("4 before 5", table, words, (int32_t[7]){0, 0, 0, 0, 0, 19, 18}, 4);
+    check_report("4: too fast", table, words, (int32_t[7]){1, 0, 0, 513, 0, 20, 30}, 4);
+    check_report("replaced when full", table, words, (int32_t[7]){3, -500, 0, 0, 0, 20, 31}, 0);
+    check_window("there", table, words, (int32_t[6]){31, 31, -500, -500, 0, 0}, 0, 3);
+    check_window("not there", table, words, (int32_t[6]){20, 20, 300, 300, 0, 0}, 0, 0);
+    check_drop("8: not held", table, words, 50, 20, BRADAWLET_NOT_LIVE);
+    check_drop("4: no identifier", table, words, 0, 20, BRADAWLET_OUT_OF_RANGE);
+    check_drop("4: no minute", table, words, 1, 1441, BRADAWLET_OUT_OF_RANGE);
+    check_drop("5: before the clock", table, words, 50, 19, BRADAWLET_TOO_EARLY);
+    check_drop("dropped", table, words, 1, 20, 0);
+    check_drop("8: dropped before", table, words, 1, 20, BRADAWLET_NOT_LIVE);
+    check_report("in its room", table, words, other, 0);
+    check_report("9: full at the expiry", table, words, (int32_t[7]){50, 0, 0, 0, 0, 30, 40}, 9);
+    /* A minute later all but two have expired: seven go in, and an eighth does not. */
+    for (int32_t id = 51; id < 51 + CELLS - 2; id++)
+        check_report("after the expiry", table, words, (int32_t[7]){id, 0, id, 0, 0, 31, 31}, 0);
+    check_report("9: full again", table, words, (int32_t[7]){70, 0, 0, 0, 0, 31, 31}, 9);
+    check_drop("8: expired", table, words, 2, 31, BRADAWLET_NOT_LIVE);
+    table[16 + 96 * table[2]] = 9;
+    check_report("1 before 4", table, words, (int32_t[7]){0, 0, 0, 0, 0, 31, 31}, 1);
+    check_drop("1: nine entries", table, words, 3, 31, BRADAWLET_UNSOUND);
+    free(table);
+}
+
 int main(void)
 {
     /* A failure is printed even if the sanitizer ends the program after it. */
@@ -334,6 +438,8 @@ int main(void)
     check_fresh(INT32_MAX, 12400, BRADAWLET_NO_SUCH_CAPACITY);
     check_queries();
     check_sheets();
+    check_desk_run();
+    check_full();
     printf("%u passed, %u failed\n", passed, failed);
     return failed != 0;
 }

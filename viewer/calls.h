@@ -20,9 +20,9 @@
 extern "C" {
 #endif
 
-/* The numbers that calls on tables give besides 4, 5, 7, 11 and 12 of enum
-   bradawlet_answer, which mean the same here with the table's clock in place of
-   the report's minute. */
+/* The numbers that calls on tables give besides 4, 5, 6, 7, 11 and 12 of enum
+   bradawlet_answer, which mean the same here; but 5 is given for what is before
+   the table's clock. */
 enum bradawlet_number {
     /* Done. */
     BRADAWLET_DONE = 0,
@@ -32,8 +32,11 @@ enum bradawlet_number {
     BRADAWLET_NO_SUCH_CAPACITY = 2,
     /* Refused: the table is too short for so many cells. */
     BRADAWLET_TABLE_TOO_SHORT = 3,
-    /* Refused: the sheet has more cells than the table is for. */
-    BRADAWLET_TOO_MANY_CELLS = 9,
+    /* Refused: the cell that is to be dropped is not live. */
+    BRADAWLET_NOT_LIVE = 8,
+    /* Refused: as many other cells are live as the table is for, or the sheet has
+       more cells than that. */
+    BRADAWLET_FULL = 9,
     /* Refused: there are more hits than the list has places. */
     BRADAWLET_LIST_TOO_SHORT = 10,
     /* Refused: the sheet is longer than the bytes. */
@@ -56,6 +59,62 @@ enum bradawlet_number {
  * touches none.
  */
 int32_t bradawlet_fresh(int32_t *table, size_t words, int32_t cells);
+
+/*
+ * Puts a cell in, in the place of a live one of the same identifier, and sets
+ * the table's clock to the report's minute.
+ *
+ *   table    the table; it may hold any words
+ *   words    how many words are lent
+ *   id       the cell's identifier                 1 to 2147483647
+ *   x, y     where it is at the report's minute    -100000 to 100000 each
+ *   vx, vy   how it moves from there               -512 to 512 each
+ *   minute   when it is reported                   0 to 1440
+ *   expiry   the last minute for which its track
+ *            can be trusted                        0 to 1440
+ *
+ * A cell is live as long as its expiry is not before the clock. The expired
+ * ones count as absent, whether or not the table still holds them: their room
+ * is used again, and no query finds them.
+ *
+ * The answer is BRADAWLET_DONE: then the reported cell is live, and so are all
+ * others that are not expired at its minute. Or it is a refusal, for the first
+ * of these reasons that holds:
+ *
+ *   BRADAWLET_UNSOUND             the words are not a sound table
+ *   BRADAWLET_OUT_OF_RANGE        an argument is outside its range
+ *   BRADAWLET_TOO_EARLY           minute is before the table's clock
+ *   BRADAWLET_EXPIRED_AT_REPORT   expiry is before minute
+ *   BRADAWLET_FULL                as many cells as the table is for, this one
+ *                                 not counted, are live at the minute
+ *
+ * Words past the number that the table needs are not touched, and a refusal
+ * touches none.
+ */
+int32_t bradawlet_report(int32_t *table, size_t words, int32_t id, int32_t x, int32_t y,
+                         int32_t vx, int32_t vy, int32_t minute, int32_t expiry);
+
+/*
+ * Takes a live cell out, and sets the table's clock to the drop's minute.
+ *
+ *   table    the table; it may hold any words
+ *   words    how many words are lent
+ *   id       the cell's identifier                 1 to 2147483647
+ *   minute   when it is dropped                    0 to 1440
+ *
+ * The answer is BRADAWLET_DONE: then all other cells that are not expired at
+ * the minute are live. Or it is a refusal, for the first of these reasons that
+ * holds:
+ *
+ *   BRADAWLET_UNSOUND        the words are not a sound table
+ *   BRADAWLET_OUT_OF_RANGE   an argument is outside its range
+ *   BRADAWLET_TOO_EARLY      minute is before the table's clock
+ *   BRADAWLET_NOT_LIVE       no cell of this identifier is live at the minute
+ *
+ * Words past the number that the table needs are not touched, and a refusal
+ * touches none.
+ */
+int32_t bradawlet_drop(int32_t *table, size_t words, int32_t id, int32_t minute);
 
 /*
  * Lists the cells that meet a window.
@@ -151,7 +210,7 @@ int32_t bradawlet_write(const int32_t *table, size_t words, uint8_t *bytes, size
  *
  * The answer is BRADAWLET_DONE, or the first of BRADAWLET_NO_SUCH_CAPACITY and
  * BRADAWLET_TABLE_TOO_SHORT, as with bradawlet_fresh, BRADAWLET_BAD_HEADER, as
- * with bradawlet_sheet, BRADAWLET_TOO_MANY_CELLS, if the sheet has more cells
+ * with bradawlet_sheet, BRADAWLET_FULL, if the sheet has more cells
  * than the table is to hold, and BRADAWLET_BAD_RECORD, as with bradawlet_sheet.
  * Words past BRADAWLET_WORDS(cells) are not touched, and a refusal touches none.
  */

@@ -62,6 +62,18 @@ impl Kind {
     }
 }
 
+impl Report {
+    /// The numbers in the order of the call.
+    pub fn numbers(&self) -> [i32; QUERY_AT] {
+        [self.id, self.x, self.y, self.vx, self.vy, self.minute, self.expiry]
+    }
+
+    /// The report whose call has these numbers.
+    pub fn from_numbers(n: &[i32; QUERY_AT]) -> Report {
+        Report { id: n[0], x: n[1], y: n[2], vx: n[3], vy: n[4], minute: n[5], expiry: n[6] }
+    }
+}
+
 impl Query {
     pub fn window(start: i32, end: i32, rectangle: Rectangle) -> Query {
         Query { start, end, first: rectangle, last: rectangle }
@@ -93,19 +105,18 @@ impl Rectangle {
 impl Question {
     /// The numbers in the order of the call.
     pub fn numbers(&self) -> [i32; NUMBERS] {
-        let r = &self.report;
         let mut numbers = [0; NUMBERS];
-        numbers[..QUERY_AT].copy_from_slice(&[r.id, r.x, r.y, r.vx, r.vy, r.minute, r.expiry]);
+        numbers[..QUERY_AT].copy_from_slice(&self.report.numbers());
         numbers[QUERY_AT..].copy_from_slice(&self.query.numbers());
         numbers
     }
 
     /// The question whose call has these numbers; a window has no use for the last four.
     pub fn from_numbers(kind: Kind, n: &[i32; NUMBERS]) -> Question {
-        let report = Report { id: n[0], x: n[1], y: n[2], vx: n[3], vy: n[4], minute: n[5], expiry: n[6] };
-        let mut numbers = [0; QUERY_NUMBERS];
-        numbers.copy_from_slice(&n[QUERY_AT..]);
-        Question { report, query: Query::from_numbers(kind, &numbers) }
+        let (report, query) = n.split_at(QUERY_AT);
+        let report = Report::from_numbers(report.try_into().expect("as many as a report has"));
+        let query = query.try_into().expect("as many as a query has");
+        Question { report, query: Query::from_numbers(kind, query) }
     }
 }
 

@@ -1,11 +1,15 @@
-//! Tables of words: what is sound, what a query must answer, and how the library is asked.
+//! Tables of words: what is sound, what a query must answer, what a report or a drop must leave, and how
+//! the library is asked.
 
+pub mod afresh;
 pub mod builder;
+pub mod changes;
 pub mod damage;
 pub mod families;
 pub mod judge;
 pub mod layout;
 pub mod library;
+pub mod model;
 pub mod queries;
 pub mod reading;
 pub mod scan;

@@ -1,6 +1,7 @@
 -- A plain model of a table: a clock, and the cells that the last accepted call on each identifier left. It knows no words and no tree.
 use mathlib.Core.Path.{_≡_}
 use mathlib.Core.Bool.{Bool, true, false}
+use mathlib.Core.Logic.{_↔_}
 use mathlib.Core.List.{List, [], _∷_}
 use Prim.Native.Nat.{ℕ, zero, suc}
 use lib.IntN.{ℤ, pos, ℤ-discrete}
@@ -8,6 +9,8 @@ use Rattle.whole.specs.Lists.{_∈_, keep}
 use Rattle.track.specs.Life.{LivesAt}
 use Rattle.track.specs.Report.{keptCell}
 use Rattle.track.specs.declared.cell.Cell.{Cell}
+use Rattle.table.specs.Header.{clock}
+use Rattle.table.specs.Sound.{Sound, Live}
 use Rattle.sheet.specs.Sheet.{clockOf, cellsOf}
 use Rattle.promises.specs.Calls.{Call, Report, Drop, Window, Moving, Leaf, Write, Read, Reply, Number, Listed, Given, Bytes}
 
@@ -19,6 +22,12 @@ pub record Model : Type 0 where
 pub record LiveIn (m : Model) (c : Cell) : Type 0 where
   pub is-left : c ∈ m .left
   pub in-life : LivesAt (m .clock) c
+
+-- a table and its model go together: it is sound, and has the model's clock and live cells
+pub record Together (m : Model) (w : List ℤ) : Type 0 where
+  pub sound : Sound w
+  pub clock-is : clock w ≡ m .clock
+  pub live : (c : Cell) → Live w c ↔ LiveIn m c
 
 -- a fresh table
 abbrev pub fresh : Model

@@ -31,8 +31,8 @@ use Rattle.tree.specs.Steps.{outcomeNumber}
 use Rattle.alike.specs.Alike.{Alike}
 use Rattle.alike.specs.AlikeLaws.{alike-sym, hits-too, query-number, report-alike, drop-alike}
 use Rattle.promises.specs.Calls.{Call, Report, Drop, Window, Moving, Leaf, Write, Read, Reply, Number, Listed, Given, Bytes, Asked, Leafed, Wrote, WasRead, Happens, Run, no-call, one-call}
-use Rattle.promises.specs.Model.{Model}
-use Rattle.promises.specs.Together.{Together, call-size}
+use Rattle.promises.specs.Model.{Model, Together}
+use Rattle.promises.specs.Together.{call-size}
 
 -- two tables that go together with one model, of one capacity, are alike
 pub model-alike : {m : Model} {w v : List ℤ} → capacityWord w ≡ capacityWord v → Together m w → Together m v → Alike w v

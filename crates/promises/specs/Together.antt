@@ -22,13 +22,7 @@ use Rattle.sheet.specs.Sheet.{clockOf, cellsOf}
 use Rattle.reading.specs.Reads.{readReasons, IsRead, ReadsSheet}
 use Rattle.reading.specs.ReadsLaws.{read-live}
 use Rattle.promises.specs.Calls.{Call, Report, Drop, Window, Moving, Leaf, Write, Read, Reply, Number, Happens, Run, no-call, one-call}
-use Rattle.promises.specs.Model.{Model, LiveIn, fresh, differs, others, after, told, afterAll}
-
--- a sound table with the model's clock and live cells
-pub record Together (m : Model) (w : List ℤ) : Type 0 where
-  pub sound : Sound w
-  pub clock-is : clock w ≡ m .clock
-  pub live : (c : Cell) → Live w c ↔ LiveIn m c
+use Rattle.promises.specs.Model.{Model, LiveIn, Together, fresh, differs, others, after, told, afterAll}
 
 -- ---- cells with other identifiers
 module _ {P : Type 0} where

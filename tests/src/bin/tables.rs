@@ -1,14 +1,29 @@
 //! Compares the calls of libcalls.a over tables with a plain scan and a judge of their own.
 
-use outside::question::{Kind, QUERY_NUMBERS};
+use outside::question::{Kind, Report, QUERY_NUMBERS};
 use outside::tables::families;
 use outside::tables::library::{Answer, Library, Written};
+use outside::tables::model::Change;
 use outside::tables::sheet::RECORD_NUMBERS;
 use std::process::ExitCode;
 
 #[link(name = "calls", kind = "static")]
 extern "C" {
     fn bradawlet_fresh(table: *mut i32, words: usize, cells: i32) -> i32;
+
+    fn bradawlet_report(
+        table: *mut i32,
+        words: usize,
+        id: i32,
+        x: i32,
+        y: i32,
+        vx: i32,
+        vy: i32,
+        minute: i32,
+        expiry: i32,
+    ) -> i32;
+
+    fn bradawlet_drop(table: *mut i32, words: usize, id: i32, minute: i32) -> i32;
 
     fn bradawlet_window(
         table: *const i32,
@@ -62,6 +77,19 @@ extern "C" {
 fn fresh(table: &mut [i32], cells: i32) -> i32 {
     // The words are ours, and lent with their number.
     unsafe { bradawlet_fresh(table.as_mut_ptr(), table.len(), cells) }
+}
+
+fn change(table: &mut [i32], change: &Change) -> i32 {
+    let (words, table) = (table.len(), table.as_mut_ptr());
+    // The words are ours, and lent with their number.
+    unsafe {
+        match *change {
+            Change::Report(Report { id, x, y, vx, vy, minute, expiry }) => {
+                bradawlet_report(table, words, id, x, y, vx, vy, minute, expiry)
+            }
+            Change::Drop { id, minute } => bradawlet_drop(table, words, id, minute),
+        }
+    }
 }
 
 fn query(kind: Kind, table: &mut [i32], list: &mut [i32], numbers: &[i32; QUERY_NUMBERS]) -> Answer {
@@ -136,5 +164,5 @@ fn next(table: &mut [i32], last: i32, numbers: &mut [i32; RECORD_NUMBERS]) -> i3
 }
 
 fn main() -> ExitCode {
-    families::run(&Library { fresh, query, write, read, open, next }).report()
+    families::run(&Library { fresh, change, query, write, read, open, next }).report()
 }

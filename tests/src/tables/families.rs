@@ -2,6 +2,7 @@
 //! and also if a kind of answer that it is meant to bring up hardly comes up.
 
 mod answered;
+mod changed;
 mod damaged;
 mod fresh;
 mod leafed;
@@ -24,6 +25,7 @@ pub fn run(library: &Library) -> Tally {
     written::run(library, &mut tally);
     read::run(library, &mut tally);
     leafed::run(library, &mut tally);
+    changed::run(library, &mut tally);
     tally
 }
 

@@ -1,5 +1,6 @@
 //! The calls of the library, and memory lent to them so that a stray write is seen.
 
+use super::model::Change;
 use super::scan::{Asked, Truth};
 use super::sheet::RECORD_NUMBERS;
 use crate::question::{Kind, QUERY_NUMBERS};
@@ -23,6 +24,7 @@ pub struct Written {
 /// nothing for granted: whether it is left alone is compared.
 pub struct Library {
     pub fresh: fn(&mut [i32], i32) -> i32,
+    pub change: fn(&mut [i32], &Change) -> i32,
     pub query: fn(Kind, &mut [i32], &mut [i32], &[i32; QUERY_NUMBERS]) -> Answer,
     pub write: fn(&mut [i32], &mut [u8]) -> Written,
     pub read: fn(&mut [i32], i32, &[u8]) -> i32,

@@ -38,10 +38,14 @@ pub fn truth(words: &[i32], asked: &Asked) -> Truth {
 
 /// For words that are known to be a sound table.
 pub fn truth_if_sound(words: &[i32], asked: &Asked) -> Truth {
+    truth_for(words, &reading::cells(words), asked)
+}
+
+/// For words that are known to be a sound table with these live cells.
+pub fn truth_for(words: &[i32], cells: &[Cell], asked: &Asked) -> Truth {
     if let Some(number) = query_refusal(asked.kind, words[CLOCK], &asked.query) {
         return Truth::Refused(number);
     }
-    let cells = reading::cells(words);
     let met = cells.iter().filter(|cell| body(cell).meets(&asked.query));
     let mut ids: Vec<i32> = met.map(|cell| cell.id).collect();
     ids.sort_unstable();

@@ -1,0 +1,377 @@
+//! Reports and drops, one after the other: after every call its number, the table's soundness, its live
+//! cells and every word that must not change; and queries in between.
+
+use super::Family;
+use crate::question::MINUTE;
+use crate::random::Random;
+use crate::refusal::{EXPIRED_AT_REPORT, FULL, NOT_LIVE, OUT_OF_RANGE, TOO_EARLY, UNSOUND};
+use crate::tables::afresh::{Entries, Step};
+use crate::tables::builder::{draw, Table};
+use crate::tables::changes::{spoiled, spoiled_by, Style};
+use crate::tables::damage::DAMAGES;
+use crate::tables::judge;
+use crate::tables::layout::*;
+use crate::tables::library::{Lent, Library};
+use crate::tables::model::{Change, Model};
+use crate::tables::queries::{accepted, KINDS};
+use crate::tables::reading;
+use crate::tables::scan::{truth_for, Truth};
+use crate::tables::sheet::live;
+use crate::tally::Tally;
+
+const CAPACITIES: [i32; 10] = [1, 2, 3, 7, 8, 9, 16, 40, 255, 256];
+
+/// So many calls in each table; a large one takes longer to fill.
+const CALLS: i32 = 150;
+const DAMAGED: u32 = 10;
+const TRIES: u32 = 20_000;
+
+pub fn run(library: &Library, tally: &mut Tally) {
+    for (place, capacity) in CAPACITIES.into_iter().enumerate() {
+        let mut random = Random::seeded(0xb000 + place as u64);
+        tally.check(runs_agree(library, capacity, &mut random));
+        tally.check(kept_full(library, capacity, &mut random));
+    }
+    tally.check(damaged(library));
+}
+
+/// A table in the hands of the library, what the model says of it, and how its calls are drawn.
+struct Run<'a> {
+    library: &'a Library,
+    random: &'a mut Random,
+    family: &'a mut Family,
+    style: Style,
+    words: Vec<i32>,
+    model: Model,
+}
+
+impl<'a> Run<'a> {
+    /// From a fresh table, or from any that the builder draws.
+    fn begun(library: &'a Library, random: &'a mut Random, family: &'a mut Family, capacity: i32) -> Run<'a> {
+        let style = Style::drawn(random, capacity);
+        let (words, model) = if random.coin() {
+            family.count("from a fresh table");
+            let length = words_for(capacity) + random.place(3);
+            let mut words = random.rubbish_words(length);
+            (library.fresh)(&mut words, capacity);
+            (words, Model::of(capacity, 0, &[]))
+        } else {
+            family.count("from a table drawn");
+            let table = draw(random, capacity);
+            let model = Model::of(capacity, table.clock, &table.cells);
+            (table.words, model)
+        };
+        Run { library, random, family, style, words, model }
+    }
+
+    /// Makes the call and compares all that it leaves. After a difference the run is no use.
+    fn make(&mut self, change: &Change) -> Result<i32, ()> {
+        let number = self.model.number(change);
+        self.describe(change, number);
+        let mut lent = Lent::of(self.random, &self.words);
+        let answered = (self.library.change)(lent.words(), change);
+        let mut after = lent.words().to_vec();
+        let need = words_for(self.model.capacity);
+        after[need..].copy_from_slice(&self.words[need..]);
+        let what = if answered != number {
+            format!("answered {answered}, computed {number}")
+        } else if number != 0 && !lent.untouched() {
+            format!("refused by {number}, but words are written")
+        } else if !lent.is_now(&after) {
+            "words past the table's need, or beside it, are written".to_string()
+        } else if number != 0 {
+            return Ok(number);
+        } else {
+            self.model.accept(change);
+            let left = self.compare(change, &after);
+            self.words = after;
+            match left {
+                Ok(()) => return Ok(number),
+                Err(what) => what,
+            }
+        };
+        self.family.wrong(format!("{what}: {change:?}, N {}", self.model.capacity));
+        Err(())
+    }
+
+    /// What an accepted call leaves.
+    fn compare(&mut self, change: &Change, after: &[i32]) -> Result<(), String> {
+        let broken = judge::broken(after);
+        if !broken.is_empty() {
+            return Err(format!("not sound: {broken:?}"));
+        }
+        if (after[CAPACITY], after[CLOCK]) != (self.model.capacity, self.model.clock) {
+            return Err(format!("capacity {}, clock {}", after[CAPACITY], after[CLOCK]));
+        }
+        let clock = self.model.clock;
+        if live(&reading::cells(after), clock) != live(&self.model.cells, clock) {
+            return Err("other live cells than computed".to_string());
+        }
+        let put = match change {
+            Change::Report(report) => Some(report.id),
+            Change::Drop { .. } => None,
+        };
+        let before = &self.words;
+        let Entries { afresh, left_alone, put_back } =
+            Step { before, after, minute: clock, put }.entries()?;
+        if afresh > 0 && left_alone > 0 {
+            self.family.count("some entries afresh, some left alone");
+        }
+        if put_back > 0 {
+            self.family.count("a node as before that was changed in between");
+        }
+        describe_shape(before, after, put.is_none(), self.family);
+        Ok(())
+    }
+
+    /// What the call brings up, before it is made.
+    fn describe(&mut self, change: &Change, number: i32) {
+        let (model, family) = (&self.model, &mut *self.family);
+        let name = match change {
+            Change::Report(_) => "report",
+            Change::Drop { .. } => "drop",
+        };
+        family.count(format!("{name} {number}"));
+        let (capacity, minute) = (model.capacity as usize, change.minute());
+        let held = reading::cells(&self.words);
+        let was_held = held.iter().any(|cell| cell.id == change.id());
+        let early = change.minute() < model.clock;
+        match (change, number) {
+            (Change::Report(_), 0) => {
+                let replaces = model.live_at(minute).iter().any(|cell| cell.id == change.id());
+                if replaces && model.live_at(minute).len() == capacity {
+                    family.count("replaced in a full table");
+                }
+                if held.len() == capacity && !replaces {
+                    family.count("put in the room of an expired cell");
+                }
+                if model.cells.len() == capacity && !replaces {
+                    family.count("full at the clock, not at the minute");
+                }
+            }
+            (Change::Drop { .. }, NOT_LIVE) if model.cells.iter().any(|cell| cell.id == change.id()) => {
+                family.count("8: live at the clock, not at the minute");
+            }
+            (Change::Drop { .. }, NOT_LIVE) if was_held => family.count("8: held, but expired at the clock"),
+            (Change::Drop { .. }, NOT_LIVE) => family.count("8: not held"),
+            (_, OUT_OF_RANGE) if early => family.count("4 before 5"),
+            (Change::Report(report), TOO_EARLY) if report.expiry < report.minute => {
+                family.count("5 before 6")
+            }
+            (Change::Drop { .. }, TOO_EARLY) if !was_held => family.count("5 before 8"),
+            (_, EXPIRED_AT_REPORT) if model.others(change).len() == capacity => family.count("6 before 9"),
+            _ => {}
+        }
+    }
+
+    /// A query of either kind, by the model's cells and the words' nodes.
+    fn query(&mut self) {
+        let kind = KINDS[self.random.place(2)];
+        let height = self.words[HEIGHT] as usize;
+        let (cells, clock) = (self.model.cells.clone(), self.model.clock);
+        let table = Table { words: self.words.clone(), cells, clock, height };
+        let asked = accepted(self.random, &table, kind);
+        let truth = truth_for(&self.words, &table.cells, &asked);
+        self.family.count(match &truth {
+            Truth::Refused(number) => format!("query refused by {number}"),
+            Truth::Met { ids, .. } if ids.is_empty() => "query without hits".to_string(),
+            Truth::Met { .. } => "query with hits".to_string(),
+        });
+        let places = self.random.one_of(&[256, 256, 3]) as usize;
+        let list = self.random.rubbish_words(places);
+        let mut list = Lent::of(self.random, &list);
+        let mut lent = Lent::of(self.random, &self.words);
+        self.family.note(self.library.differs(&mut lent, &mut list, &asked, &truth));
+    }
+}
+
+/// What became of the tree's nodes.
+fn describe_shape(before: &[i32], after: &[i32], drop: bool, family: &mut Family) {
+    let leaves = |words: &[i32]| -> Vec<(usize, usize)> {
+        let mut leaves = reading::leaves(words);
+        leaves.sort_unstable();
+        leaves.into_iter().map(|leaf| (leaf, reading::count(words, leaf))).collect()
+    };
+    let (old, new) = (leaves(before), leaves(after));
+    if new.len() > old.len() {
+        family.count("leaf parted");
+    } else if new.len() < old.len() {
+        family.count("leaves joined");
+    } else if drop && old.iter().filter(|leaf| !new.contains(leaf)).count() == 2 {
+        family.count("cell borrowed");
+    }
+    if after[HEIGHT] > before[HEIGHT] {
+        family.count("root grew");
+    } else if after[HEIGHT] < before[HEIGHT] {
+        family.count("root gave way");
+    }
+    if after[HEIGHT] > 1 {
+        family.count("three levels or more");
+    }
+}
+
+fn runs_agree(library: &Library, capacity: i32, random: &mut Random) -> bool {
+    let mut family = Family::named(format!("reports and drops in tables of {capacity}"));
+    let tables = match capacity {
+        ..=16 => 80,
+        ..=40 => 50,
+        _ => 30,
+    };
+    for _ in 0..tables {
+        let mut run = Run::begun(library, random, &mut family, capacity);
+        if run.drop_expired().is_err() {
+            continue;
+        }
+        for _ in 0..CALLS + 2 * capacity {
+            let held = reading::cells(&run.words);
+            let mut change = run.style.change(run.random, &run.model, &held);
+            if run.random.between(0, 9) == 0 {
+                change = spoiled(run.random, run.model.clock, &change);
+            }
+            if run.make(&change).is_err() {
+                break;
+            }
+            if run.random.between(0, 3) == 0 {
+                run.query();
+            }
+        }
+    }
+    let mut meant = vec!["report 0", "report 4", "report 5", "report 6", "report 9"];
+    meant.extend(["drop 0", "drop 4", "drop 5", "drop 8", "query with hits", "query without hits"]);
+    meant.extend(["from a fresh table", "from a table drawn", "4 before 5", "5 before 6"]);
+    meant.extend(["8: not held", "8: held, but expired at the clock"]);
+    meant.push("8: live at the clock, not at the minute");
+    if capacity >= 9 {
+        meant.extend(["leaf parted", "leaves joined", "root grew", "root gave way"]);
+        meant.push("some entries afresh, some left alone");
+    }
+    if capacity >= 16 {
+        meant.push("cell borrowed");
+    }
+    if capacity >= 40 {
+        meant.push("three levels or more");
+    }
+    family.holds(&meant, 10)
+}
+
+/// A table is filled, stays full, and its cells all expire at once.
+fn kept_full(library: &Library, capacity: i32, random: &mut Random) -> bool {
+    let mut family = Family::named(format!("tables of {capacity} kept full"));
+    let tables = if capacity > 40 { 8 } else { 40 };
+    for _ in 0..tables {
+        let mut run = Run::begun(library, random, &mut family, capacity);
+        let clock = run.model.clock;
+        let until = (clock + run.random.between(0, 30)).min(MINUTE);
+        let minute = run.random.between(clock, until);
+        if run.fill(minute, until).and_then(|()| run.stay_full(minute, until)).is_err() {
+            continue;
+        }
+        // At the expiry they are live still; a minute later none is, and there is room for N others.
+        let last = run.refused_when_full(until, MINUTE);
+        if last.is_ok() && until < MINUTE && run.fill(until + 1, MINUTE).is_ok() {
+            let _ = run.refused_when_full(until + 1, MINUTE);
+            run.query();
+        }
+    }
+    let meant = ["replaced in a full table", "put in the room of an expired cell", "report 9", "6 before 9"];
+    family.holds(&meant, 5)
+}
+
+impl Run<'_> {
+    /// Cells that the table holds but that count as absent.
+    fn drop_expired(&mut self) -> Result<(), ()> {
+        let minute = self.model.clock;
+        let mut expired = reading::cells(&self.words);
+        expired.retain(|cell| cell.expiry < minute);
+        for cell in expired.iter().take(5) {
+            self.make(&Change::Drop { id: cell.id, minute })?;
+        }
+        Ok(())
+    }
+
+    fn report(&mut self, id: i32, minute: i32, expiry: i32) -> Result<i32, ()> {
+        let mut report = self.style.report(self.random, id, minute);
+        report.expiry = expiry;
+        self.make(&Change::Report(report))
+    }
+
+    /// New cells until no more go in. Those that were live go on living, but not past `until`.
+    fn fill(&mut self, minute: i32, until: i32) -> Result<(), ()> {
+        for cell in self.model.live_at(minute) {
+            self.report(cell.id, minute, until)?;
+        }
+        while self.model.clock < minute || (self.model.cells.len() as i32) < self.model.capacity {
+            let id = self.unknown();
+            self.report(id, minute, until)?;
+        }
+        Ok(())
+    }
+
+    /// An identifier that no live cell has.
+    fn unknown(&mut self) -> i32 {
+        loop {
+            let id = self.random.between(1, 1_000);
+            if !self.model.cells.iter().any(|cell| cell.id == id) {
+                return id;
+            }
+        }
+    }
+
+    fn refused_when_full(&mut self, minute: i32, expiry: i32) -> Result<(), ()> {
+        let id = self.unknown();
+        let number = self.report(id, minute, expiry)?;
+        if number != FULL {
+            self.family.wrong(format!("a full table answers {number}"));
+        }
+        if minute > 0 {
+            self.report(id, minute, minute - 1)?;
+        }
+        Ok(())
+    }
+
+    /// Cells are replaced, and dropped for others.
+    fn stay_full(&mut self, minute: i32, until: i32) -> Result<(), ()> {
+        for _ in 0..self.model.capacity.min(40) {
+            self.refused_when_full(minute, until)?;
+            let id = self.model.cells[self.random.place(self.model.cells.len())].id;
+            self.report(id, minute, until)?;
+            let id = self.model.cells[self.random.place(self.model.cells.len())].id;
+            self.make(&Change::Drop { id, minute })?;
+            self.make(&Change::Drop { id, minute })?;
+            let id = self.unknown();
+            self.report(id, minute, until)?;
+            self.query();
+        }
+        Ok(())
+    }
+}
+
+/// 1 whatever the arguments are, and not a word is written.
+fn damaged(library: &Library) -> bool {
+    let mut random = Random::seeded(0xb100);
+    let mut family = Family::named("reports and drops in tables that are not sound");
+    for damage in DAMAGES {
+        let tables: Vec<_> =
+            (0..TRIES).filter_map(|_| (damage.make)(&mut random)).take(DAMAGED as usize).collect();
+        for words in tables {
+            let clock = words.get(CLOCK).copied().unwrap_or(0).clamp(0, MINUTE);
+            let style = Style::drawn(&mut random, LARGEST);
+            let id = random.between(1, 20);
+            let report = Change::Report(style.report(&mut random, id, clock));
+            let drop = Change::Drop { id, minute: clock };
+            for right in [report, drop] {
+                let reason = random.one_of(&[TOO_EARLY, EXPIRED_AT_REPORT, OUT_OF_RANGE]);
+                let wrong = spoiled_by(&mut random, clock, &right, &[reason]);
+                for change in [right, wrong] {
+                    let mut lent = Lent::of(&mut random, &words);
+                    let number = (library.change)(lent.words(), &change);
+                    family.count("refused by 1");
+                    if number != UNSOUND || !lent.untouched() {
+                        family.wrong(format!("{}: answered {number}, or wrote: {change:?}", damage.name));
+                    }
+                }
+            }
+        }
+    }
+    family.holds(&["refused by 1"], 1_000)
+}
