@@ -34,7 +34,7 @@ const GIVEN: [(&str, &str); 11] = [
 
 /// The given run: the list of cells is right about it, and so is the program, however it is fed.
 fn given_run(program: &Path) -> bool {
-    let mut desk = Desk::default();
+    let mut desk = Desk::fresh();
     let mut session = Session::default();
     let mut given = String::new();
     for (line, answer) in GIVEN {

@@ -2,8 +2,9 @@
 
 use super::line::{Line, GREATEST};
 use super::model::Desk;
-use crate::question::{Kind, Query, Rectangle, Report, MINUTE, POSITION, QUERY_NUMBERS};
+use crate::question::{Kind, Query, Rectangle, MINUTE, POSITION, QUERY_NUMBERS};
 use crate::random::Random;
+use crate::tables::worlds::Cell;
 
 pub fn kind(random: &mut Random) -> Kind {
     if random.coin() {
@@ -22,7 +23,7 @@ fn fitted(kind: Kind, mut query: Query) -> Line {
 
 /// Rectangles within a reach, for some minutes from the clock on.
 pub fn within(random: &mut Random, desk: &Desk, reach: i32, minutes: i32) -> Line {
-    let start = (desk.clock + random.between(0, minutes)).min(MINUTE);
+    let start = (desk.clock() + random.between(0, minutes)).min(MINUTE);
     let end = (start + random.between(0, minutes)).min(MINUTE);
     let mut rectangle = || Rectangle::of(random.ordered(-reach, reach), random.ordered(-reach, reach));
     let (first, last) = (rectangle(), rectangle());
@@ -32,34 +33,31 @@ pub fn within(random: &mut Random, desk: &Desk, reach: i32, minutes: i32) -> Lin
 /// Everywhere, from the clock on.
 pub fn everywhere(random: &mut Random, desk: &Desk) -> Line {
     let all = Rectangle::of((-POSITION, POSITION), (-POSITION, POSITION));
-    let query = Query { start: desk.clock, end: MINUTE, first: all, last: all };
+    let query = Query { start: desk.clock(), end: MINUTE, first: all, last: all };
     fitted(kind(random), query)
 }
 
 /// At a live cell: the rectangle touches it or misses it by one, at the start or on the way, and
 /// before or just after its expiry.
 pub fn aimed(random: &mut Random, desk: &Desk) -> Line {
-    let live: Vec<&Report> = desk.live().collect();
+    let live = &desk.model.cells;
     if live.is_empty() {
         return within(random, desk, POSITION, 10);
     }
     let cell = live[random.place(live.len())];
     let last = cell.expiry.min(MINUTE);
-    let inside = random.between(desk.clock, last);
-    let start = random.one_of(&[desk.clock, inside, last, last + 1]).min(MINUTE);
+    let inside = random.between(desk.clock(), last);
+    let start = random.one_of(&[desk.clock(), inside, last, last + 1]).min(MINUTE);
     let soon = start + random.between(0, 5);
     let end = random.one_of(&[start, soon, soon, last, MINUTE]).clamp(start, MINUTE);
     let touched = if random.coin() { start } else { random.between(start, end) };
-    let first = near(random, cell, touched);
-    let query = Query { start, end, first, last: near(random, cell, end) };
+    let first = near(random, &cell, touched);
+    let query = Query { start, end, first, last: near(random, &cell, end) };
     fitted(kind(random), query)
 }
 
-fn near(random: &mut Random, cell: &Report, minute: i32) -> Rectangle {
-    let later = minute - cell.minute;
-    let x = touching(random, cell.x + cell.vx * later);
-    let y = touching(random, cell.y + cell.vy * later);
-    Rectangle::of(x, y)
+fn near(random: &mut Random, cell: &Cell, minute: i32) -> Rectangle {
+    Rectangle::of(touching(random, cell.x_at(minute)), touching(random, cell.y_at(minute)))
 }
 
 /// An interval that has the place as an end, or inside, or is one off.

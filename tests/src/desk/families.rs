@@ -161,7 +161,7 @@ fn refused(random: &mut Random, desk: &Desk) -> Vec<u8> {
 fn early(random: &mut Random, desk: &Desk) -> Report {
     let mut report = PLANE.report(random, desk);
     if random.coin() {
-        report.minute = random.between(0, desk.clock);
+        report.minute = random.between(0, desk.clock());
     }
     report.expiry = random.between(0, report.minute);
     report

@@ -31,7 +31,7 @@ impl Session {
     /// So many lines, each made with a look at the desk as it is then.
     pub fn made(random: &mut Random, lines: usize, next: fn(&mut Random, &Desk) -> Vec<u8>) -> Session {
         let mut session = Session::default();
-        let mut desk = Desk::default();
+        let mut desk = Desk::fresh();
         for _ in 0..lines {
             let line = next(random, &desk);
             session.add(&mut desk, &line);

@@ -19,7 +19,7 @@ impl World {
     /// The minute of the next report or drop.
     fn minute(&self, random: &mut Random, desk: &Desk) -> i32 {
         let later = i32::from(random.between(1, self.turns_a_minute) == 1);
-        (desk.clock + later).min(MINUTE)
+        (desk.clock() + later).min(MINUTE)
     }
 
     pub fn report(&self, random: &mut Random, desk: &Desk) -> Report {
@@ -50,7 +50,7 @@ fn end(random: &mut Random, least: i32, greatest: i32) -> i32 {
 
 /// Every number at an end of its range; the minute often the clock.
 pub fn report_at_ends(random: &mut Random, desk: &Desk) -> Report {
-    let minute = if random.between(0, 200) == 0 { end(random, 0, MINUTE) } else { desk.clock };
+    let minute = if random.between(0, 200) == 0 { end(random, 0, MINUTE) } else { desk.clock() };
     let expiry = if random.coin() { end(random, 0, MINUTE) } else { minute };
     Report {
         id: if random.coin() { random.between(1, 40) } else { end(random, 1, GREATEST) },
@@ -65,6 +65,6 @@ pub fn report_at_ends(random: &mut Random, desk: &Desk) -> Report {
 
 pub fn drop_at_ends(random: &mut Random, desk: &Desk) -> Line {
     let id = end(random, 1, GREATEST);
-    let minute = if random.coin() { desk.clock } else { end(random, 0, MINUTE.min(desk.clock + 1)) };
+    let minute = if random.coin() { desk.clock() } else { end(random, 0, MINUTE.min(desk.clock() + 1)) };
     Line::Drop { id, minute }
 }
