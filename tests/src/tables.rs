@@ -10,6 +10,7 @@ pub mod judge;
 pub mod layout;
 pub mod library;
 pub mod model;
+pub mod opened;
 pub mod queries;
 pub mod reading;
 pub mod scan;

@@ -1,10 +1,11 @@
-//! Compares the calls of libcalls.a over tables with a plain scan and a judge of their own.
+//! Compares the calls of libcalls.a over tables with a plain scan and a judge of their own. With the
+//! argument `opened` it compares nothing, and counts the nodes that queries open over a day.
 
 use outside::question::{Kind, Report, QUERY_NUMBERS};
-use outside::tables::families;
 use outside::tables::library::{Answer, Library, Written};
 use outside::tables::model::Change;
 use outside::tables::sheet::RECORD_NUMBERS;
+use outside::tables::{families, opened};
 use std::process::ExitCode;
 
 #[link(name = "calls", kind = "static")]
@@ -164,5 +165,16 @@ fn next(table: &mut [i32], last: i32, numbers: &mut [i32; RECORD_NUMBERS]) -> i3
 }
 
 fn main() -> ExitCode {
-    families::run(&Library { fresh, change, query, write, read, open, next }).report()
+    let library = Library { fresh, change, query, write, read, open, next };
+    match std::env::args().nth(1).as_deref() {
+        None => families::run(&library).report(),
+        Some("opened") => {
+            opened::print(&library);
+            ExitCode::SUCCESS
+        }
+        Some(other) => {
+            eprintln!("no such argument: {other}");
+            ExitCode::FAILURE
+        }
+    }
 }
