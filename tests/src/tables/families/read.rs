@@ -164,7 +164,12 @@ fn not_as_said(words: &[i32], capacity: i32, said: &Said) -> Option<String> {
     let mut cells = reading::cells(words);
     cells.sort();
     let is = words[CAPACITY] == capacity && words[CLOCK] == said.clock && cells == said.cells;
-    (!is).then(|| "not the sheet's capacity, clock and cells".to_string())
+    if !is {
+        return Some("not the sheet's capacity, clock and cells".to_string());
+    }
+    // Every entry is worked out at the sheet's clock.
+    let stale = reading::inners(words).iter().any(|entry| words[entry.at + inner::STAMP] != said.clock);
+    stale.then(|| "an entry stamped at another minute".to_string())
 }
 
 fn not_written_back(library: &Library, words: &mut [i32], bytes: &[u8]) -> Option<String> {
