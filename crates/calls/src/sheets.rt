@@ -5,7 +5,6 @@ use leafing::step_from;
 use reading::read_sheet;
 use track::cell::Cell;
 use track::minute::Minute;
-use tree::outcome::Outcome;
 use words::number;
 use writing::Written;
 use writing::write_sheet;
@@ -45,10 +44,8 @@ pub extern "C" fn bradawlet_write(table: &[i32], bytes: &mut [u8], total: &mut i
 pub extern "C" fn bradawlet_read(table: &mut [i32], cells: i32, bytes: &[u8]) -> i32
     ensures { λ r. ⌜ ReadGives cells (now (table .entry)) (now (bytes .entry)) r (now (table .exit)) ⌝ }
 {
-    match read_sheet(table, cells, bytes) {
-        Outcome::Accepted => 0,
-        Outcome::Refused(why) => why.number(),
-    }
+    let outcome = read_sheet(table, cells, bytes);
+    outcome.number()
 }
 
 // Whether the table can be leafed through: 0, or the refusal's number.
