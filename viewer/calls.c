@@ -1,6 +1,7 @@
 /*
- * Makes fresh tables, reports to them and drops from them, asks them, writes their
- * sheets and leafs through them, from C: every number that these calls give.
+ * Makes fresh tables, reports to them and drops from them, asks them, writes and
+ * reads their sheets and leafs through them, from C: every number that these
+ * calls give.
  * Prints a line for each check that fails, and last the counts.
  */
 #include "calls.h"
@@ -221,6 +222,57 @@ static void check_next(const char *name, const int32_t *table, size_t words, int
     free(numbers);
 }
 
+/* Reads the sheet into so many words: it must answer this, and touch no word past the table's
+   need, or none at all. */
+static void check_read(const char *name, size_t words, int32_t cells, const uint8_t *sheet,
+                       size_t length, int32_t number)
+{
+    int32_t *table = rubbish(words);
+    uint8_t *bytes = malloc(length > 0 ? length : 1);
+    if (bytes == NULL)
+        abort();
+    memcpy(bytes, sheet, length);
+    check(name, bradawlet_read(table, words, cells, bytes, length) == number);
+    check(name, memcmp(bytes, sheet, length) == 0);
+    size_t untouched_from = number == BRADAWLET_DONE ? BRADAWLET_WORDS(cells) : 0;
+    check(name, all_rubbish(table + untouched_from, words - untouched_from));
+    if (number == BRADAWLET_DONE)
+        check_write(name, table, words, length, BRADAWLET_DONE, sheet, length);
+    free(bytes);
+    free(table);
+}
+
+/* A sheet with two cells, and what can be wrong with it. */
+static void check_reads(const uint8_t two[BRADAWLET_SHEET(2)])
+{
+    const size_t total = BRADAWLET_SHEET(2), words = BRADAWLET_WORDS(CELLS);
+    uint8_t wrong[BRADAWLET_SHEET(2)];
+
+    check_read("a sheet read", words, CELLS, two, total, BRADAWLET_DONE);
+    check_read("a sheet read, words left", words + EXTRA, CELLS, two, total, BRADAWLET_DONE);
+    check_read("as many cells as it is for", words, 2, two, total, BRADAWLET_DONE);
+    check_read("9: a cell too many", words, 1, two, total, BRADAWLET_FULL);
+    check_read("2: no such capacity", words, 0, two, total, BRADAWLET_NO_SUCH_CAPACITY);
+    check_read("2 before 3", 0, 257, two, total, BRADAWLET_NO_SUCH_CAPACITY);
+    check_read("3: a word too few", words - 1, CELLS, two, total, BRADAWLET_TABLE_TOO_SHORT);
+    check_read("3 before 11", 0, CELLS, two, 0, BRADAWLET_TABLE_TOO_SHORT);
+    for (size_t length = 0; length < total; length++)
+        check_read("11: bytes missing", words, CELLS, two, length, BRADAWLET_BAD_HEADER);
+    memcpy(wrong, two, total);
+    wrong[4] = 17;
+    check_read("11 before 9", words, 1, wrong, total, BRADAWLET_BAD_HEADER);
+    memcpy(wrong, two, total);
+    wrong[16] = 0;
+    check_read("12: identifier 0", words, CELLS, wrong, total, BRADAWLET_BAD_RECORD);
+    check_read("9 before 12", words, 1, wrong, total, BRADAWLET_FULL);
+    memcpy(wrong, two, total);
+    wrong[36] = 9;
+    check_read("12: expired", words, CELLS, wrong, total, BRADAWLET_BAD_RECORD);
+    memcpy(wrong + 16, two + 40, 24);
+    memcpy(wrong + 40, two + 16, 24);
+    check_read("12: falling identifiers", words, CELLS, wrong, total, BRADAWLET_BAD_RECORD);
+}
+
 static void check_sheets(void)
 {
     static const int32_t late[6] = {INT32_MAX, -837280, 0, 1, -512, 1440},
@@ -265,6 +317,7 @@ static void check_sheets(void)
     check_next("the last cell once more", table, words, INT32_MAX - 1, 1, late);
     check_next("no more", table, words, INT32_MAX, 0, none);
     free(table);
+    check_reads(two);
 }
 
 /* Compares the table after a call with what it was: the clock is set, or not a word is touched. */

@@ -20,7 +20,7 @@
 extern "C" {
 #endif
 
-/* The numbers that calls on tables give besides 4, 5, 6 and 7 of enum
+/* The numbers that calls on tables give besides 4, 5, 6, 7, 11 and 12 of enum
    bradawlet_answer, which mean the same here; but 5 is given for what is before
    the table's clock. */
 enum bradawlet_number {
@@ -34,7 +34,8 @@ enum bradawlet_number {
     BRADAWLET_TABLE_TOO_SHORT = 3,
     /* Refused: the cell that is to be dropped is not live. */
     BRADAWLET_NOT_LIVE = 8,
-    /* Refused: as many other cells are live as the table is for. */
+    /* Refused: as many other cells are live as the table is for, or the sheet has
+       more cells than that. */
     BRADAWLET_FULL = 9,
     /* Refused: there are more hits than the list has places. */
     BRADAWLET_LIST_TOO_SHORT = 10,
@@ -196,6 +197,25 @@ int32_t bradawlet_moving(const int32_t *table, size_t words, int32_t *list, size
  */
 int32_t bradawlet_write(const int32_t *table, size_t words, uint8_t *bytes, size_t length,
                         int32_t *total);
+
+/*
+ * Reads a sheet: the words become a table for so many cells that holds the
+ * sheet's cells, with the sheet's clock.
+ *
+ *   table    any words; what they held is lost
+ *   words    how many are lent
+ *   cells    the most that the table is to hold    1 to 256
+ *   bytes    the sheet, just as long as it says
+ *   length   how many bytes there are
+ *
+ * The answer is BRADAWLET_DONE, or the first of BRADAWLET_NO_SUCH_CAPACITY and
+ * BRADAWLET_TABLE_TOO_SHORT, as with bradawlet_fresh, BRADAWLET_BAD_HEADER, as
+ * with bradawlet_sheet, BRADAWLET_FULL, if the sheet has more cells
+ * than the table is to hold, and BRADAWLET_BAD_RECORD, as with bradawlet_sheet.
+ * Words past BRADAWLET_WORDS(cells) are not touched, and a refusal touches none.
+ */
+int32_t bradawlet_read(int32_t *table, size_t words, int32_t cells, const uint8_t *bytes,
+                       size_t length);
 
 /*
  * Leafs through the live cells of a table by rising identifier.

@@ -2,6 +2,7 @@
 //! exact computation that shares no code and no method with them.
 
 pub mod comparison;
+pub mod desk;
 pub mod families;
 pub mod meeting;
 pub mod question;

@@ -15,6 +15,8 @@ pub const BACKWARD: i32 = 7;
 pub const NOT_LIVE: i32 = 8;
 pub const FULL: i32 = 9;
 pub const LIST_TOO_SHORT: i32 = 10;
+pub const BAD_HEADER: i32 = 11;
+pub const BAD_RECORD: i32 = 12;
 pub const BYTES_TOO_SHORT: i32 = 13;
 
 fn out_of_range(kind: Kind, question: &Question) -> bool {

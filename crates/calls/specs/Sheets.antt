@@ -9,6 +9,9 @@ use Rattle.sheet.specs.Sheet.{totalFor, cellNumbers}
 use Rattle.leafing.specs.NextLive.{Steps}
 use Rattle.leafing.specs.declared.search.Next.{Next}
 use Rattle.leafing.specs.declared.search.Next.the-variants.{One, None}
+use Rattle.tree.specs.Steps.{outcomeNumber}
+use Rattle.reading.specs.Reads.{ReadsSheet}
+use Rattle.tree.specs.declared.outcome.Outcome.{Outcome}
 use Rattle.writing.specs.Written.{writtenNumber, writtenTotal, WritesSheet}
 use Rattle.writing.specs.declared.Written.{Written}
 
@@ -26,6 +29,12 @@ pub record WriteGives (w : List ℤ) (bytes : List ℕ) (r total : ℤ) (bytes�
   pub written : Written
   pub writes : WritesSheet w bytes written bytes′
   pub in-numbers : WrittenInNumbers written r total
+
+-- r is the number of reading the bytes into the words w as a table for so many cells, which leaves v
+pub record ReadGives (cells : ℤ) (w : List ℤ) (bytes : List ℕ) (r : ℤ) (v : List ℤ) : Type 0 where
+  pub outcome : Outcome
+  pub reads : ReadsSheet cells w bytes outcome v
+  pub number-is : r ≡ pos (outcomeNumber outcome)
 
 -- a step in numbers: 1 and the cell, or 0 and zeros
 abbrev pub isGiven : Next → ℤ

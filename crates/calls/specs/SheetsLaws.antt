@@ -1,4 +1,4 @@
--- One number, one total and the same bytes only fit a writing; one number and one record only fit a step.
+-- One number, one total and the same bytes only fit a writing, one number a reading, one number and one record a step.
 use mathlib.Core.Path.{_≡_, refl, sym, ap, _∙_}
 use mathlib.Core.List.{List}
 use Prim.Native.Nat.{ℕ}
@@ -6,10 +6,13 @@ use lib.IntN.{ℤ, pos}
 use Rattle.sheet.specs.Sheet.{cellNumbers}
 use Rattle.leafing.specs.NextLiveLaws.{steps-fixed}
 use Rattle.leafing.specs.declared.search.Next.{Next}
+use Rattle.tree.specs.Steps.{outcomeNumber}
+use Rattle.reading.specs.ReadsLaws.{read-fixed}
+use Rattle.tree.specs.declared.outcome.Outcome.{Outcome}
 use Rattle.writing.specs.Written.{writtenNumber, writtenTotal}
 use Rattle.writing.specs.WrittenLaws.{written-same}
 use Rattle.writing.specs.declared.Written.{Written}
-use Rattle.calls.specs.Sheets.{WriteGives, isGiven, nextCell, NextGives}
+use Rattle.calls.specs.Sheets.{WriteGives, ReadGives, isGiven, nextCell, NextGives}
 
 pub write-fixed : {w : List ℤ} {bytes : List ℕ} {r total : ℤ} {bytes′ : List ℕ} {s total₂ : ℤ} {bytes″ : List ℕ}
     → WriteGives w bytes r total bytes′ → WriteGives w bytes s total₂ bytes″ → (r ≡ s) × (total ≡ total₂) × (bytes′ ≡ bytes″)
@@ -21,6 +24,9 @@ write-fixed f g =
       m .total-is ∙ ap (λ (a : Written). pos (writtenTotal a)) (same .0) ∙ sym (n .total-is),
       same .1,
     )
+
+pub read-number-fixed : {cells : ℤ} {w : List ℤ} {bytes : List ℕ} {r s : ℤ} {u v : List ℤ} → ReadGives cells w bytes r u → ReadGives cells w bytes s v → r ≡ s
+read-number-fixed f g = f .number-is ∙ ap (λ (o : Outcome). pos (outcomeNumber o)) (read-fixed (f .reads) (g .reads)) ∙ sym (g .number-is)
 
 pub next-fixed : {w : List ℤ} {last r : ℤ} {numbers : List ℤ} {s : ℤ} {numbers₂ : List ℤ}
     → NextGives w last r numbers → NextGives w last s numbers₂ → (r ≡ s) × (numbers ≡ numbers₂)

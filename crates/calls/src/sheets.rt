@@ -2,6 +2,7 @@
 use leafing::search::Next;
 use leafing::search::opening;
 use leafing::step_from;
+use reading::read_sheet;
 use track::cell::Cell;
 use track::minute::Minute;
 use words::number;
@@ -10,7 +11,7 @@ use writing::write_sheet;
 ghost use mathlib.Core.Path.{_≡_};
 ghost use Rattle.track.specs.Refusals.{Gives};
 ghost use Rattle.leafing.specs.NextLive.{openingReasons};
-ghost use Rattle.calls.specs.Sheets.{Small, WrittenInNumbers, WriteGives, nextCell, isGiven, NextGives};
+ghost use Rattle.calls.specs.Sheets.{Small, WrittenInNumbers, WriteGives, ReadGives, nextCell, isGiven, NextGives};
 
 // Hands an answer's total over, and tells its number.
 fn written_in_numbers(written: Written, total: &mut i32) -> i32
@@ -36,6 +37,15 @@ pub extern "C" fn bradawlet_write(table: &[i32], bytes: &mut [u8], total: &mut i
 {
     let written = write_sheet(table, bytes);
     written_in_numbers(written, total)
+}
+
+// Replaces the table by one for so many cells that holds the sheet's: 0, or the refusal's number.
+#[no_mangle]
+pub extern "C" fn bradawlet_read(table: &mut [i32], cells: i32, bytes: &[u8]) -> i32
+    ensures { λ r. ⌜ ReadGives cells (now (table .entry)) (now (bytes .entry)) r (now (table .exit)) ⌝ }
+{
+    let outcome = read_sheet(table, cells, bytes);
+    outcome.number()
 }
 
 // Whether the table can be leafed through: 0, or the refusal's number.

@@ -5,3 +5,4 @@ pub mod Search
 pub mod Leafed
 pub mod LeafedLaws
 pub mod LiveCellsLaws
+pub mod LeafingLaws

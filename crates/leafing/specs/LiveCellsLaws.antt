@@ -1,4 +1,4 @@
--- The list of a table's live cells: there is one, it is no longer than a table may hold, and it depends on which cells are live alone.
+-- The list of a table's live cells: there is one, it is no longer than a table may hold, and it depends on which cells are live alone, as does every step.
 use mathlib.Core.Path.{_≡_}
 use mathlib.Core.Logic.{_↔_}
 use mathlib.Core.List.{List, [], _∷_, map}
@@ -15,7 +15,11 @@ use Rattle.track.specs.declared.cell.Cell.{Cell}
 use Rattle.table.specs.Header.{greatestCapacity}
 use Rattle.table.specs.HeaderLaws.{capacity-low}
 use Rattle.table.specs.Sound.{Sound, Live}
+use Rattle.leafing.specs.NextLive.{Steps}
+use Rattle.leafing.specs.NextLiveLaws.{steps-fixed}
+use Rattle.leafing.specs.Search.{next-as}
 use Rattle.leafing.specs.Leafed.{LiveCells}
+use Rattle.leafing.specs.declared.search.Next.{Next}
 
 -- c has the lesser identifier
 abbrev Before : Cell → Cell → Type 0
@@ -38,3 +42,13 @@ pub live-few : {w : List ℤ} → Sound w → {cells : List Cell} → LiveCells 
 live-few {w} sound {cells} live =
     let once = rising-no-repeat (λ x y z. <ℤ-trans) (λ x. <ℤ-irrefl) (rising-cells cells (live .rising)) in
     omega (arith, no-repeat-fits once (λ c m. live .only c m .is-held), sound .few-cells, capacity-low (sound .capacity-in))
+
+-- ---- so does a step: two tables with the same live cells, both sound or neither, give the same
+pub steps-same : {v w : List ℤ} {last : ℤ} (r s : Next) → ((c : Cell) → Live v c ↔ Live w c) → Sound v ↔ Sound w → Steps v last r → Steps w last s → r ≡ s
+steps-same {v} {w} {last} r s live sound p q = steps-fixed r s as-of-w q
+  where
+    as-of-w : Steps w last r
+    as-of-w = record {
+      sound = λ t. next-as (Live v) (Live w) last (λ c. live c .0) (λ c l up. live c .1 l) r (p .sound (sound .1 t));
+      unsound = λ n. p .unsound (λ t. n (sound .0 t));
+    }

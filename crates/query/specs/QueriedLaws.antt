@@ -2,17 +2,15 @@
 use mathlib.Core.Path.{_≡_, refl, sym, ap, ap₂, _∙_}
 use mathlib.Core.Logic.{inl, inr}
 use mathlib.Core.List.{List, [], _∷_, _++_}
-use Prim.Native.Nat.{ℕ, _-_, _<_}
+use Prim.Native.Nat.{ℕ, _<_}
 use native.Mathlib.Decide.{ℕ-discrete}
 use native.Mathlib.Omega.{arith}
 use lib.IntN.{ℤ}
-use lib.ListN.{length, getD}
+use lib.ListN.{length}
 use Rattle.whole.specs.Rising.{<ℤ-same}
 use Rattle.track.specs.Query.{queryReasons}
-use Rattle.track.specs.Refusals.{First, _when_, first-fixed, number, refused-not-zero}
+use Rattle.track.specs.Refusals.{First, _when_, first-fixed, number-fixes, refused-not-zero}
 use Rattle.track.specs.declared.query.Query.{Query}
-use Rattle.track.specs.declared.refusal.Refusal.{Refusal}
-use Rattle.track.specs.declared.refusal.Refusal.the-variants.{NotSound, BadCapacity, ShortTable, OutOfRange, BeforeClock, ExpiresFirst, Backward, NotLive, Full, ShortList, BadHeader, BadRecord, ShortBytes}
 use Rattle.table.specs.Header.{clock}
 use Rattle.query.specs.Hits.{Hits, MoreHits}
 use Rattle.query.specs.Queried.{answerNumber, answerHits, answerOpened, reasons, Queried}
@@ -26,29 +24,6 @@ hits-fixed h j = <ℤ-same (h .rising) (j .rising) (λ id m. j .all id (h .only 
 pub hits-length : {w : List ℤ} {k : Query} {ids jds : List ℤ} → Hits w k ids → Hits w k jds → length ids ≡ length jds
 hits-length h j = ap length (hits-fixed h j)
 
--- ---- a refusal is fixed by its number
-named : ℕ → Refusal
-named n = getD (NotSound ∷ BadCapacity ∷ ShortTable ∷ OutOfRange ∷ BeforeClock ∷ ExpiresFirst ∷ Backward ∷ NotLive ∷ Full ∷ ShortList ∷ BadHeader ∷ BadRecord ∷ []) (n - 1) ShortBytes
-
-named-number : (r : Refusal) → named (number r) ≡ r
-unfolding named
-named-number NotSound = refl
-named-number BadCapacity = refl
-named-number ShortTable = refl
-named-number OutOfRange = refl
-named-number BeforeClock = refl
-named-number ExpiresFirst = refl
-named-number Backward = refl
-named-number NotLive = refl
-named-number Full = refl
-named-number ShortList = refl
-named-number BadHeader = refl
-named-number BadRecord = refl
-named-number ShortBytes = refl
-
-number-same : {r s : Refusal} → number r ≡ number s → r ≡ s
-number-same {r} {s} e = sym (named-number r) ∙ ap named e ∙ named-number s
-
 found-same : {f g : Found} → f .hits ≡ g .hits → f .opened ≡ g .opened → f ≡ g
 found-same h o = ap₂ make h o
   where
@@ -61,7 +36,7 @@ refused-opened (Listed f) n = absurd (n refl)
 refused-opened (TooMany m) n = refl
 refused-opened (Refused x) n = refl
 
-refused-hits : (r : Answer) → (answerNumber r ≡ 0 → ⊥) → (answerNumber r ≡ 10 → ⊥) → answerHits r ≡ 0
+pub refused-hits : (r : Answer) → (answerNumber r ≡ 0 → ⊥) → (answerNumber r ≡ 10 → ⊥) → answerHits r ≡ 0
 refused-hits (Listed f) n m = absurd (n refl)
 refused-hits (TooMany i) n m = absurd (m refl)
 refused-hits (Refused x) n m = refl
@@ -94,7 +69,7 @@ module _ {w : List ℤ} {B : Type 0} {k : Query} {list : List ℤ} where
   answer-same {r = TooMany m} {s = Refused x} p q e h o = absurd (omega (arith, some-hits q (sym e)))
   answer-same {r = Refused x} {s = Listed g} p q e h o = absurd (refused-not-zero x e)
   answer-same {r = Refused x} {s = TooMany n} p q e h o = absurd (omega (arith, some-hits p e))
-  answer-same {r = Refused x} {s = Refused y} p q e h o = ap Refused (number-same e)
+  answer-same {r = Refused x} {s = Refused y} p q e h o = ap Refused (number-fixes x y e)
 
   module _ {r s : Answer} {list′ list″ : List ℤ} (p : Queried w B k list r list′) (q : Queried w B k list s list″) where
     number-fixed : answerNumber r ≡ answerNumber s

@@ -1,3 +1,4 @@
 pub mod Reads
 pub mod ReadsLaws
+pub mod Filling
 pub mod ThereAndBack

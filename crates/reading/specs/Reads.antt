@@ -7,15 +7,15 @@ use lib.IntN.{ℤ}
 use lib.ListN.{length, drop}
 use Rattle.whole.specs.Lists.{_∈_}
 use Rattle.words.specs.Words.{natOf}
-use Rattle.track.specs.Refusals.{Reason, _when_, First, number}
+use Rattle.track.specs.Refusals.{Reason, _when_, First}
 use Rattle.track.specs.declared.cell.Cell.{Cell}
 use Rattle.table.specs.Header.{capacityWord, clock, wordsFor}
 use Rattle.table.specs.Fresh.{freshReasons}
 use Rattle.table.specs.Sound.{Sound, held}
 use Rattle.sheet.specs.Sheet.{mostCells, countOf, clockOf, cellsOf}
 use Rattle.sheet.specs.WellFormed.{HeaderSound, RecordsSound}
-use Rattle.reading.specs.declared.Outcome.{Outcome}
-use Rattle.reading.specs.declared.Outcome.the-variants.{Accepted, Refused}
+use Rattle.tree.specs.Steps.{outcomeNumber}
+use Rattle.tree.specs.declared.outcome.Outcome.{Outcome}
 
 -- why the bytes are not read into the words w as a table for so many cells, in the order in which it is tried: as for a fresh table, then the sheet's own
 abbrev pub readReasons : ℤ → List ℤ → List ℕ → List Reason
@@ -25,11 +25,6 @@ readReasons cells w bytes =
     9 when (natOf cells < countOf bytes) ∷
     12 when (RecordsSound bytes → ⊥) ∷
     []
-
--- each answer's number
-abbrev pub outcomeNumber : Outcome → ℕ
-outcomeNumber Accepted = 0
-outcomeNumber (Refused why) = number why
 
 -- v is a table for so many cells that was read from the bytes into the words w: the sheet's clock, its cells and no others, and no word touched past its need
 pub record IsRead (cells : ℤ) (w : List ℤ) (bytes : List ℕ) (v : List ℤ) : Type 0 where

@@ -1,5 +1,5 @@
 -- What reading a sheet comes to: the sheet's cells are the live ones, and the answer is fixed.
-use mathlib.Core.Path.{_≡_, refl, sym, ap}
+use mathlib.Core.Path.{_≡_, refl, sym, ap, _∙_, subst}
 use mathlib.Core.Logic.{inr}
 use mathlib.Core.List.{List}
 use Prim.Native.Nat.{ℕ, _≤_}
@@ -11,10 +11,13 @@ use Rattle.track.specs.Refusals.{First, first-fixed, refused-not-zero, number-f
 use Rattle.table.specs.Header.{IsCapacity, wordsFor}
 use Rattle.sheet.specs.Sheet.{mostCells, countOf, cellsOf}
 use Rattle.sheet.specs.WellFormed.{RecordsSound, SheetSound}
+use Rattle.table.specs.Fresh.{freshReasons, IsFresh, MakesFresh}
+use Rattle.track.specs.declared.refusal.Refusal.{Refusal}
 use Rattle.leafing.specs.Leafed.{LiveCells}
-use Rattle.reading.specs.Reads.{readReasons, outcomeNumber, IsRead, ReadsSheet}
-use Rattle.reading.specs.declared.Outcome.{Outcome}
-use Rattle.reading.specs.declared.Outcome.the-variants.{Accepted, Refused}
+use Rattle.reading.specs.Reads.{readReasons, IsRead, ReadsSheet}
+use Rattle.tree.specs.Steps.{outcomeNumber}
+use Rattle.tree.specs.declared.outcome.Outcome.{Outcome}
+use Rattle.tree.specs.declared.outcome.Outcome.the-variants.{Accepted, Refused}
 
 -- what is read may be read: a sheet of at most so many cells, into words enough
 pub record CanRead (cells : ℤ) (w : List ℤ) (bytes : List ℕ) : Type 0 where
@@ -33,8 +36,24 @@ pub can-accept : {cells : ℤ} {w : List ℤ} {bytes : List ℕ} → CanRead cel
 can-accept c =
     inr (λ f. f (c .capacity-in), inr (λ lt. omega (arith, c .long-enough), inr (λ f. f (c .well-formed .header), inr (λ lt. omega (arith, c .few), inr (λ f. f (c .well-formed .records), refl)))))
 
+pub read-done : {cells : ℤ} {w : List ℤ} {bytes : List ℕ} {r : Outcome} {v : List ℤ} → CanRead cells w bytes → ReadsSheet cells w bytes r v → outcomeNumber r ≡ 0
+read-done {cells} {w} {bytes} {r} can p = first-fixed (readReasons cells w bytes) (outcomeNumber r) 0 (p .refusal) (can-accept can)
+
 pub read-accepted : {cells : ℤ} {w : List ℤ} {bytes : List ℕ} {r : Outcome} {v : List ℤ} → CanRead cells w bytes → ReadsSheet cells w bytes r v → IsRead cells w bytes v
-read-accepted {cells} {w} {bytes} {r} can p = p .accepted (first-fixed (readReasons cells w bytes) (outcomeNumber r) 0 (p .refusal) (can-accept can))
+read-accepted can p = p .accepted (read-done can p)
+
+-- ---- the ways through the reading
+pub reads-refused : {cells : ℤ} {w : List ℤ} {bytes : List ℕ} {r : Outcome} {why : Refusal} → Judges cells w bytes r → r ≡ Refused why → ReadsSheet cells w bytes r w
+reads-refused {why} j e = record { refusal = j .refusal; accepted = λ z. absurd (refused-not-zero why (sym (ap outcomeNumber e) ∙ z)); refused = λ n. refl }
+
+pub reads-accepted : {cells : ℤ} {w : List ℤ} {bytes : List ℕ} {r : Outcome} {v : List ℤ} → Judges cells w bytes r → r ≡ Accepted → IsRead cells w bytes v → ReadsSheet cells w bytes Accepted v
+reads-accepted {cells} {w} {bytes} j e read =
+    record { refusal = subst (λ (s : Outcome). First (readReasons cells w bytes) (outcomeNumber s)) e (j .refusal); accepted = λ z. read; refused = λ n. absurd (n refl) }
+
+-- a fresh table is made of words into which a sheet may be read
+pub fresh-made : {cells : ℤ} {w : List ℤ} {bytes : List ℕ} {n : ℕ} {v : List ℤ} → CanRead cells w bytes → MakesFresh cells w n v → IsFresh cells w v
+fresh-made {cells} {w} {n} c m =
+    m .accepted (first-fixed (freshReasons cells w) n 0 (m .refusal) (inr (λ f. f (c .capacity-in), inr (λ lt. omega (arith, c .long-enough), refl))))
 
 -- ---- the live cells of what was read are the sheet's
 pub read-live : {cells : ℤ} {w : List ℤ} {bytes : List ℕ} {v : List ℤ} → RecordsSound bytes → IsRead cells w bytes v → LiveCells v (cellsOf bytes)

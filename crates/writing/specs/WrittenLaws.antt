@@ -39,7 +39,7 @@ module _ {w : List ℤ} {bytes : List ℕ} {n total : ℕ} (sound : Sound w) (is
   writes-all le p =
       let live = leafed-live sound (p .leafed) in
       record {
-        refusal = inr (λ f. f sound, inr (λ l. enough live l, refl));
+        refusal = inr (λ f. f sound, inr (enough live, refl));
         accepted = λ e. record { cells = p .cells; live = live; total-is = is ∙ ap totalFor (p .count); written = rw is (p .is) };
         refused = λ e. absurd (e refl);
       }
@@ -59,6 +59,17 @@ answer-fixed (Refused why) (Refused other) e f = ap Refused (number-fixes why ot
 refused-total : (r : Written) → (writtenNumber r ≡ 0 → ⊥) → writtenTotal r ≡ 0
 refused-total (Total n) ne = absurd (ne refl)
 refused-total (Refused why) ne = refl
+
+-- ---- a sound table whose sheet finds room is not refused
+pub write-accepted : {w : List ℤ} {bytes : List ℕ} {r : Written} {bytes′ : List ℕ} {cells : List Cell} → Sound w → LiveCells w cells → totalFor (length cells) ≤ length bytes
+    → WritesSheet w bytes r bytes′ → writtenNumber r ≡ 0
+write-accepted {w} {bytes} {r} {cells} sound live room p =
+    first-fixed (writeReasons w bytes) (writtenNumber r) 0 (p .refusal) (inr (λ f. f sound, inr (enough, refl)))
+  where
+    enough : LongerThan (length bytes) w → ⊥
+    enough l =
+        let same = live-same-list (λ c. (λ x. x, λ x. x)) live (l .live) in
+        omega (arith, l .longer, ap length same)
 
 -- ---- the total is small
 pub written-few : {w : List ℤ} {bytes : List ℕ} (r : Written) {bytes′ : List ℕ} → WritesSheet w bytes r bytes′ → writtenTotal r ≤ totalFor greatestCapacity

@@ -68,6 +68,8 @@ extern "C" {
         total: *mut i32,
     ) -> i32;
 
+    fn bradawlet_read(table: *mut i32, words: usize, cells: i32, bytes: *const u8, length: usize) -> i32;
+
     fn bradawlet_open(table: *const i32, words: usize) -> i32;
 
     fn bradawlet_next(table: *const i32, words: usize, last: i32, numbers: *mut i32) -> i32;
@@ -147,6 +149,11 @@ fn write(table: &mut [i32], bytes: &mut [u8]) -> Written {
     Written { number, total }
 }
 
+fn read(table: &mut [i32], cells: i32, bytes: &[u8]) -> i32 {
+    // Table and bytes are ours, apart from each other, and lent with their lengths.
+    unsafe { bradawlet_read(table.as_mut_ptr(), table.len(), cells, bytes.as_ptr(), bytes.len()) }
+}
+
 fn open(table: &mut [i32]) -> i32 {
     // The words are ours, and lent with their number.
     unsafe { bradawlet_open(table.as_mut_ptr(), table.len()) }
@@ -158,7 +165,7 @@ fn next(table: &mut [i32], last: i32, numbers: &mut [i32; RECORD_NUMBERS]) -> i3
 }
 
 fn main() -> ExitCode {
-    let library = Library { fresh, change, query, write, open, next };
+    let library = Library { fresh, change, query, write, read, open, next };
     match std::env::args().nth(1).as_deref() {
         None => families::run(&library).report(),
         Some("opened") => {

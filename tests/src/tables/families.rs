@@ -6,6 +6,7 @@ mod changed;
 mod damaged;
 mod fresh;
 mod leafed;
+mod read;
 mod rubbish;
 mod sound;
 mod written;
@@ -22,6 +23,7 @@ pub fn run(library: &Library) -> Tally {
     answered::run(library, &mut tally);
     fresh::run(library, &mut tally);
     written::run(library, &mut tally);
+    read::run(library, &mut tally);
     leafed::run(library, &mut tally);
     changed::run(library, &mut tally);
     tally

@@ -27,6 +27,7 @@ pub struct Library {
     pub change: fn(&mut [i32], &Change) -> i32,
     pub query: fn(Kind, &mut [i32], &mut [i32], &[i32; QUERY_NUMBERS]) -> Answer,
     pub write: fn(&mut [i32], &mut [u8]) -> Written,
+    pub read: fn(&mut [i32], i32, &[u8]) -> i32,
     pub open: fn(&mut [i32]) -> i32,
     /// From an identifier on, with room for a record's numbers.
     pub next: fn(&mut [i32], i32, &mut [i32; RECORD_NUMBERS]) -> i32,

@@ -1,0 +1,3 @@
+pub mod Talked
+pub mod Talking
+pub mod Begun

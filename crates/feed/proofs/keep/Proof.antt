@@ -1,0 +1,22 @@
+use borrow.Author.Needs.{needs}
+use Rattle.feed.specs.HeldLaws.{keeps-one, keeps-none}
+use Rattle.feed.proofs.keep.Statement.{statement}
+use Rattle.feed.proofs.keep.Tie as tie
+
+slice-write-buffer : tie.Need-slice-write-buffer
+slice-write-buffer c = search needs
+
+add-result : tie.Need-add-result
+add-result c = search needs
+
+same-length : tie.Need-same-length
+same-length c = search needs
+
+returns : tie.Need-returns
+returns c = let a = c .before .args in keeps-one (a .buffer .now) (a .held) (a .b) (c .if1 .taken)
+
+returns-2 : tie.Need-returns-2
+returns-2 c = let a = c .before .args in keeps-none (a .buffer .now) (a .held) (a .b) (c .if1 .left)
+
+pub keep-spec : {M : Type 1} → statement M
+keep-spec = tie.close (tie.spec slice-write-buffer add-result same-length returns returns-2)

@@ -1,0 +1,4 @@
+pub mod Parting
+pub mod PartingLaws
+pub mod Held
+pub mod HeldLaws

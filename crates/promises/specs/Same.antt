@@ -1,0 +1,172 @@
+-- The second promise over runs: two tables of one capacity and length that have the same clock and live cells give the same replies to every run of calls,
+-- and have the same clock and live cells after it. So every reply is a function of the model, the capacity, the length and what is given to the call.
+use mathlib.Core.Path.{_≡_, refl, sym, ap, ap₂, _∙_, subst}
+use mathlib.Core.Logic.{_⊎_, _↔_, inl, inr, ⊎-elim}
+use mathlib.Core.List.{List, [], _∷_, _++_}
+use Prim.Native.Nat.{ℕ}
+use native.Mathlib.Decide.{ℕ-discrete}
+use native.Mathlib.Omega.{arith}
+use lib.IntN.{ℤ}
+use lib.ListN.{length, drop}
+use lib.Signed.{_≤ℤ_, _<ℤ_}
+use Rattle.whole.specs.Order.{≤ℤ-or-<ℤ}
+use Rattle.words.specs.Words.{natOf}
+use Rattle.track.specs.Refusals.{First, first-fixed, first-as}
+use Rattle.track.specs.declared.cell.Cell.{Cell}
+use Rattle.track.specs.declared.query.Query.{Query}
+use Rattle.table.specs.Header.{capacityWord, clock, wordsFor}
+use Rattle.table.specs.Sound.{Live, Sound}
+use Rattle.query.specs.Queried.{answerNumber, answerHits, reasons, Queried}
+use Rattle.query.specs.QueriedLaws.{hits-fixed, refused-hits}
+use Rattle.query.specs.Hits.{Hits}
+use Rattle.query.specs.declared.answer.Answer.{Answer}
+use Rattle.leafing.specs.NextLive.{IsNext, NextOf, Steps}
+use Rattle.leafing.specs.NextLiveLaws.{steps-sound, steps-fixed}
+use Rattle.leafing.specs.declared.search.Next.{Next}
+use Rattle.leafing.specs.declared.search.Next.the-variants.{One, None}
+use Rattle.writing.specs.Written.{writtenNumber, writtenTotal}
+use Rattle.writing.specs.WrittenLaws.{written-same}
+use Rattle.reading.specs.Reads.{readReasons, IsRead, ReadsSheet}
+use Rattle.tree.specs.Steps.{outcomeNumber}
+use Rattle.alike.specs.Alike.{Alike}
+use Rattle.alike.specs.AlikeLaws.{alike-sym, hits-too, query-number, report-alike, drop-alike}
+use Rattle.promises.specs.Calls.{Call, Report, Drop, Window, Moving, Leaf, Write, Read, Reply, Number, Listed, Given, Bytes, Asked, Leafed, Wrote, WasRead, Happens, Run, no-call, one-call}
+use Rattle.promises.specs.Model.{Model, Together}
+use Rattle.promises.specs.Together.{call-size}
+
+-- two tables that go together with one model, of one capacity, are alike
+pub model-alike : {m : Model} {w v : List ℤ} → capacityWord w ≡ capacityWord v → Together m w → Together m v → Alike w v
+model-alike cells s t = record {
+  sound = s .sound;
+  sound′ = t .sound;
+  capacity-is = cells;
+  clock-is = s .clock-is ∙ sym (t .clock-is);
+  live = λ c. (λ l. t .live c .1 (s .live c .0 l), λ l. s .live c .1 (t .live c .0 l));
+}
+
+always : {P : Type 0} → P ↔ P
+always = (λ p. p, λ p. p)
+
+same-alike : {w v w′ v′ : List ℤ} → w′ ≡ w → v′ ≡ v → Alike w v → Alike w′ v′
+same-alike e f a = rw (e, f) a
+
+-- ---- a query
+module _ {w v : List ℤ} (a : Alike w v) (B : Type 0) (k : Query) (list : List ℤ) where
+  -- one whose number is none of 1, 4 and 5 starts at or after the clock
+  late : (n : ℕ) → (n ≡ 1 → ⊥) → (n ≡ 4 → ⊥) → (n ≡ 5 → ⊥) → First (reasons w B k list) n → clock w ≤ℤ k .start .at
+  late n p q r (inl h) = absurd (p (h .1))
+  late n p q r (inr (s, inl h)) = absurd (q (h .1))
+  late n p q r (inr (s, inr (o, inl h))) = absurd (r (h .1))
+  late n p q r (inr (s, inr (o, inr (l, h)))) = ⊎-elim (λ le. le) (λ lt. absurd (l lt)) (≤ℤ-or-<ℤ (clock w) (k .start .at))
+
+  module _ {r s : Answer} {list′ list″ : List ℤ} (p : Queried w B k list r list′) (q : Queried v B k list s list″) where
+    number-same : answerNumber r ≡ answerNumber s
+    number-same = query-number a B k (length list) (answerNumber r) (answerNumber s) (p .refusal) (q .refusal)
+
+    ids-same : (n : ℕ) → answerNumber r ≡ n → (n ≡ 1 → ⊥) → (n ≡ 4 → ⊥) → (n ≡ 5 → ⊥) → {ids jds : List ℤ} → Hits w k ids → Hits v k jds → ids ≡ jds
+    ids-same n e x y z h j = hits-fixed (hits-too a (late n x y z (subst (First (reasons w B k list)) e (p .refusal))) h) j
+
+    abbrev Same : Type 0
+    Same = (answerNumber r ≡ answerNumber s) × (answerHits r ≡ answerHits s) × (list′ ≡ list″)
+
+    listed : answerNumber r ≡ 0 → Same
+    listed e =
+        let l = p .accepted e in
+        let m = q .accepted (sym number-same ∙ e) in
+        let ids : l .ids ≡ m .ids = ids-same 0 e (λ x. omega arith) (λ x. omega arith) (λ x. omega arith) (l .hits) (m .hits) in
+        (number-same, l .hit-count ∙ ap length ids ∙ sym (m .hit-count), l .written ∙ ap (λ (ids : List ℤ). ids ++ drop (length ids) list) ids ∙ sym (m .written))
+
+    counted : answerNumber r ≡ 10 → Same
+    counted e =
+        let l = p .counted e in
+        let m = q .counted (sym number-same ∙ e) in
+        let ids : l .ids ≡ m .ids = ids-same 10 e (λ x. omega arith) (λ x. omega arith) (λ x. omega arith) (l .hits) (m .hits) in
+        (number-same, l .hit-count ∙ ap length ids ∙ sym (m .hit-count), p .unchanged (λ z. omega arith) ∙ sym (q .unchanged (λ z. omega (arith, number-same))))
+
+    refused : (answerNumber r ≡ 0 → ⊥) → (answerNumber r ≡ 10 → ⊥) → Same
+    refused x y =
+        (number-same, refused-hits r x y ∙ sym (refused-hits s (λ z. x (number-same ∙ z)) (λ z. y (number-same ∙ z))), p .unchanged x ∙ sym (q .unchanged (λ z. x (number-same ∙ z))))
+
+    queried-alike : Same
+    queried-alike = by (ℕ-discrete (answerNumber r) 0) (ℕ-discrete (answerNumber r) 10)
+      where
+        by : Dec (answerNumber r ≡ 0) → Dec (answerNumber r ≡ 10) → Same
+        by (yes e) d = listed e
+        by (no x) (yes e) = counted e
+        by (no x) (no y) = refused x y
+
+  asked-alike : {x y : Reply} {w′ v′ : List ℤ} → Asked w B k list x w′ → Asked v B k list y v′ → (x ≡ y) × Alike w′ v′
+  asked-alike p q =
+      let same = queried-alike (p .queried) (q .queried) in (
+        p .reply ∙ ap (λ (n : ℕ). Listed n (answerHits (p .answer)) (p .list′)) (same .0) ∙ ap₂ (Listed (answerNumber (q .answer))) (same .1) (same .2) ∙ sym (q .reply),
+        same-alike (p .unchanged) (q .unchanged) a,
+      )
+
+-- ---- a step of the leafing looks at the live cells alone
+next-as : {P Q : Cell → Type 0} → ((c : Cell) → P c ↔ Q c) → (last : ℤ) (r : Next) → NextOf P last r → NextOf Q last r
+next-as same last (One c) n = record { is-one = same c .0 (n .is-one); above = n .above; least = λ d q. n .least d (same d .1 q) }
+next-as same last None n = λ c q. n c (same c .1 q)
+
+leafed-alike : {w v : List ℤ} {last : ℤ} {x y : Reply} {w′ v′ : List ℤ} → Alike w v → Leafed w last x w′ → Leafed v last y v′ → (x ≡ y) × Alike w′ v′
+leafed-alike {last} a p q =
+    let there = steps-sound (a .sound′) last (p .next) (next-as (a .live) last (p .next) (p .steps .sound (a .sound))) in
+    (p .reply ∙ ap Given (steps-fixed (p .next) (q .next) there (q .steps)) ∙ sym (q .reply), same-alike (p .unchanged) (q .unchanged) a)
+
+-- ---- the sheet depends on the clock and the live cells alone
+wrote-alike : {w v : List ℤ} {bytes : List ℕ} {x y : Reply} {w′ v′ : List ℤ} → Alike w v → Wrote w bytes x w′ → Wrote v bytes y v′ → (x ≡ y) × Alike w′ v′
+wrote-alike a p q =
+    let same = written-same (a .clock-is) (a .live) (λ s. a .sound′, λ s. a .sound) (p .writes) (q .writes) in (
+      p .reply ∙ ap₂ (λ r b. Bytes (writtenNumber r) (writtenTotal r) b) (same .0) (same .1) ∙ sym (q .reply),
+      same-alike (p .unchanged) (q .unchanged) a,
+    )
+
+-- ---- reading a sheet looks at the length alone
+module _ {w v : List ℤ} (a : Alike w v) (long : length w ≡ length v) {cells : ℤ} {bytes : List ℕ} where
+  read-alike : {x y : Reply} {w′ v′ : List ℤ} → WasRead w cells bytes x w′ → WasRead v cells bytes y v′ → (x ≡ y) × Alike w′ v′
+  read-alike {x} {y} {w′} {v′} p q = (p .reply ∙ ap Number same ∙ sym (q .reply), by (ℕ-discrete (outcomeNumber (p .outcome)) 0))
+    where
+      same : outcomeNumber (p .outcome) ≡ outcomeNumber (q .outcome)
+      same =
+          first-fixed (readReasons cells v bytes) (outcomeNumber (p .outcome)) (outcomeNumber (q .outcome))
+          (first-as (readReasons cells w bytes) (readReasons cells v bytes) (outcomeNumber (p .outcome))
+          (refl, always, (refl, (λ lt. rw (← long) lt, λ lt. rw long lt), (refl, always, (refl, always, (refl, always, tt)))))
+          (p .reads .refusal))
+          (q .reads .refusal)
+
+      both : IsRead cells w bytes w′ → IsRead cells v bytes v′ → Alike w′ v′
+      both r s = record {
+        sound = r .sound;
+        sound′ = s .sound;
+        capacity-is = r .capacity-is ∙ sym (s .capacity-is);
+        clock-is = r .clock-is ∙ sym (s .clock-is);
+        live = λ c. (
+          λ l. record { is-held = s .holds c .1 (r .holds c .0 (l .is-held)); in-life = rw (r .clock-is ∙ sym (s .clock-is)) at (l .in-life) },
+          λ l. record { is-held = r .holds c .1 (s .holds c .0 (l .is-held)); in-life = rw (s .clock-is ∙ sym (r .clock-is)) at (l .in-life) },
+        );
+      }
+
+      by : Dec (outcomeNumber (p .outcome) ≡ 0) → Alike w′ v′
+      by (yes e) = both (p .reads .accepted e) (q .reads .accepted (sym same ∙ e))
+      by (no n) = same-alike (p .reads .refused n) (q .reads .refused (λ z. n (same ∙ z))) a
+
+-- ---- any call, and any run of calls
+pub call-alike : {w v : List ℤ} → Alike w v → length w ≡ length v → (c : Call) (x y : Reply) {w′ v′ : List ℤ} → Happens w c x w′ → Happens v c y v′ → (x ≡ y) × Alike w′ v′
+call-alike a long (Report id x y vx vy minute expiry) s t p q = let r = report-alike a id minute (p .steps) (q .steps) in (p .reply ∙ ap Number (r .0) ∙ sym (q .reply), r .1)
+call-alike a long (Drop id minute) s t p q = let r = drop-alike a id minute (p .steps) (q .steps) in (p .reply ∙ ap Number (r .0) ∙ sym (q .reply), r .1)
+call-alike a long (Window k list) s t p q = asked-alike a _ k list p q
+call-alike a long (Moving k list) s t p q = asked-alike a _ k list p q
+call-alike a long (Leaf last) s t p q = leafed-alike a p q
+call-alike a long (Write bytes) s t p q = wrote-alike a p q
+call-alike a long (Read cells bytes) s t p q = read-alike a long p q
+
+pub run-alike : {w v : List ℤ} {calls : List Call} {xs ys : List Reply} {w′ v′ : List ℤ} → Alike w v → length w ≡ length v → Run w calls xs w′ → Run v calls ys v′ → (xs ≡ ys) × Alike w′ v′
+run-alike a long no-call no-call = (refl, a)
+run-alike a long (one-call {c} {a = x} p run) (one-call {a = y} q again) =
+    let here = call-alike a long c x y p q in
+    let rest = run-alike (here .1) (call-size c x p .as-long ∙ long ∙ sym (call-size c y q .as-long)) run again in
+    (ap₂ _∷_ (here .0) (rest .0), rest .1)
+
+-- the reply is a function of the model, the capacity, the length and what is given to the call
+pub reply-fixed : {m : Model} {w v : List ℤ} → Together m w → Together m v → capacityWord w ≡ capacityWord v → length w ≡ length v
+    → (c : Call) (x y : Reply) (w′ v′ : List ℤ) → Happens w c x w′ → Happens v c y v′ → x ≡ y
+reply-fixed s t cells long c x y w′ v′ p q = call-alike (model-alike cells s t) long c x y p q .0

@@ -1,0 +1,1 @@
+// What the contracts of the calls promise together, over whole runs of calls: theorems in specs/, and no code.
