@@ -1,4 +1,5 @@
 pub mod Weights
+pub mod Inner
 pub mod Places
 pub mod Moved
 pub mod Regroup
