@@ -35,6 +35,7 @@ pub mod Clear
 pub mod Staying
 pub mod Steps
 pub mod StayingLaws
+pub mod Renewed
 pub mod SoundWhole
 pub mod Stepping
 pub mod Outcomes
