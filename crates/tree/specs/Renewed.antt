@@ -1,19 +1,22 @@
 -- From a test that all inner entries pass to the entries themselves: after a change each is stamped at the minute, or stood there before.
-use mathlib.Core.Path.{_≡_, refl}
+use mathlib.Core.Path.{_≡_, refl, ap}
 use mathlib.Core.Bool.{Bool, true, false}
 use mathlib.Core.Logic.{_⊎_, inl, inr, ⊎-elim}
 use mathlib.Core.List.{List, [], _∷_, flatMap, List·Memᴰ·head, List·Memᴰ·tail, List·Memᴰ·not-nil, List·Memᴰ·cases-cons, List·Memᴰ·append-cases, Memᴰ·append-left, Memᴰ·append-right}
 use Prim.Native.Nat.{ℕ, zero, suc}
 use native.Mathlib.Omega.{arith}
 use lib.IntN.{ℤ, ℤ-discrete}
+use lib.ListN.{length}
 use Rattle.whole.specs.Lists.{_∈_}
 use Rattle.node.specs.Entry.{Entry, childOf, stampOf}
-use Rattle.table.specs.Header.{root, height, entriesAt}
+use Rattle.table.specs.Header.{capacity, clock, root, height, entriesAt}
+use Rattle.table.specs.Sound.{Sound}
 use Rattle.table.specs.Tree.{Nodes}
 use Rattle.table.specs.Reach.{flat-in, in-flat}
 use Rattle.tree.specs.Weights.{entry-discrete}
 use Rattle.tree.specs.Inner.{AllInner}
-use Rattle.tree.specs.Holding.{RenewsAll}
+use Rattle.tree.specs.Tall.{some-leaf}
+use Rattle.tree.specs.Holding.{leaves, RenewsAll}
 use Rattle.tree.specs.Steps.{innersOf, inners}
 
 -- whether an entry stands in a list
@@ -59,6 +62,18 @@ module _ {P Q : Type 0} where
   true-either (yes p) k e = inl p
   true-either (no n) (yes q) e = inr q
   true-either (no n) (no m) e = absurd (let z : _≡_ {A = ℕ} 0 1 = cc in omega arith)
+
+-- a sound table with no cell has no inner entry
+pub no-inner : {w : List ℤ} → Sound w → leaves w ≡ [] → (e : Entry) → e ∈ inners w → ⊥
+unfolding innersOf
+no-inner {w} s none = by (height w) refl
+  where
+    empty : length (leaves w) ≡ 0
+    empty = ap length none
+
+    by : (h : ℕ) → height w ≡ h → (e : Entry) → e ∈ inners w → ⊥
+    by zero flat e m = List·Memᴰ·not-nil (rw flat at m)
+    by (suc h) tall e m = omega (arith, empty, some-leaf (entriesAt w) (capacity w) (clock w) (height w) (root w) (s .tree) (omega (arith, s .root-filled (omega arith))))
 
 pub renewed-entries : {minute : ℤ} (w v : List ℤ) → RenewsAll minute w v → (e : Entry) → e ∈ inners v → (stampOf e ≡ minute) ⊎ (e ∈ inners w)
 renewed-entries {minute} w v renews e m =
