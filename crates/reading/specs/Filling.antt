@@ -1,6 +1,7 @@
 -- The cells of a sheet put into a fresh table one after the other: what holds after each, and that the table is read in the end.
 use mathlib.Core.Path.{_≡_, refl, ap, ap₂, _∙_, subst}
 use mathlib.Core.List.{List, [], _∷_, _++_, map, append-nil, Memᴰ·map, Memᴰ·of-map, List·Memᴰ·head, List·Memᴰ·tail}
+use mathlib.Core.Logic.{⊎-elim}
 use Prim.Native.Nat.{ℕ, suc, _+_, _-_, _≤_, _<_}
 use native.Mathlib.Numerals.{add-one}
 use native.Mathlib.Omega.{arith}
@@ -20,9 +21,10 @@ use Rattle.table.specs.Fresh.{IsFresh}
 use Rattle.table.specs.Sound.{held}
 use Rattle.tree.specs.Weights.{sum-append, sum-cons, SameWeights, same-sym, same-length, same-map, same-entries, same-no-repeat}
 use Rattle.tree.specs.Headed.{Clocked}
-use Rattle.tree.specs.Holding.{leaves, Holding, Stands, stands-all, stands-then, stands-capacity}
+use Rattle.tree.specs.Holding.{leaves, Holding, RenewsAll, Stands, stands-all, stands-then, stands-capacity}
+use Rattle.tree.specs.Renewed.{no-inner}
 use Rattle.tree.specs.PutCell.{HasRoom, PutCell}
-use Rattle.tree.specs.Stepping.{sound-holding, sound-at-last, stands-at-last, same-leaves, rest-at-last}
+use Rattle.tree.specs.Stepping.{sound-holding, sound-at-last, entries-at-last, stands-at-last, same-leaves, rest-at-last}
 use Rattle.sheet.specs.Sheet.{countOf, clockOf, cellAt, cellsFrom, cellsOf}
 use Rattle.sheet.specs.SheetLaws.{length-cellsFrom}
 use Rattle.reading.specs.Reads.{IsRead}
@@ -40,6 +42,7 @@ pub record Filled (w : List ℤ) (bytes : List ℕ) (minute : ℤ) (v : List ℤ
   pub holding : Holding v minute
   pub stands : Stands (capacity w) w v
   pub entries : SameWeights (leaves v) (map leafEntry (cellsOf bytes))
+  pub renews : RenewsAll minute w v
 
 -- the cells of the records from record k on
 abbrev pub leftFrom : List ℕ → ℕ → List Cell
@@ -51,6 +54,7 @@ pub record Filling (w : List ℤ) (bytes : List ℕ) (minute : ℤ) (k : ℕ) (v
   pub holding : Holding v minute
   pub stands : Stands (capacity w) w v
   pub entries : SameWeights (leaves v ++ map leafEntry (leftFrom bytes k)) (map leafEntry (cellsOf bytes))
+  pub renews : RenewsAll minute w v
   pub left : (c : Cell) → c ∈ leftFrom bytes k → c ∈ cellsOf bytes
 
 module _ {w : List ℤ} {bytes : List ℕ} {minute : ℤ} (can : CanFill w bytes minute) where
@@ -62,6 +66,7 @@ module _ {w : List ℤ} {bytes : List ℕ} {minute : ℤ} (can : CanFill w bytes
         holding = can .holding;
         stands = stands-all (capacity w) w;
         entries = rw (all, can .none-yet) (record { same = λ φ. refl });
+        renews = λ S new all. all;
         left = λ c m. rw all at m;
       }
 
@@ -97,6 +102,7 @@ module _ {w : List ℤ} {bytes : List ℕ} {minute : ℤ} (can : CanFill w bytes
         holding = p .holding;
         stands = stands-then (so-far .stands) (rw (stands-capacity (so-far .stands)) at (p .stands));
         entries = record { same = λ φ. omega (arith, p .one-more .same φ, sum-cons φ x (leaves v), sum-append φ (leaves u) rest, was .same φ, sum-append φ (leaves v) (x ∷ rest), sum-cons φ x rest) };
+        renews = λ S new all. p .renews S new (so-far .renews S new all);
         left = λ c m. so-far .left c (rw next-left (List·Memᴰ·tail m));
       }
         where
@@ -113,7 +119,7 @@ module _ {w : List ℤ} {bytes : List ℕ} {minute : ℤ} (can : CanFill w bytes
     unfolding cellsFrom
     filled le =
         let e : countOf bytes - k ≡ 0 = omega arith in
-        record { holding = so-far .holding; stands = so-far .stands; entries = rw append-nil at (rw e at (so-far .entries)) }
+        record { holding = so-far .holding; stands = so-far .stands; entries = rw append-nil at (rw e at (so-far .entries)); renews = so-far .renews }
 
 -- ---- from the fresh table to the one that was read
 map-back : (l : List Cell) → map cellOf (map leafEntry l) ≡ l
@@ -170,6 +176,8 @@ module _ {cells : ℤ} {w : List ℤ} {bytes : List ℕ} (can : CanRead cells w 
       capacity-is = at-last .same-capacity ∙ f .capacity-is;
       clock-is = set-clock .clock-is;
       holds = λ c. (λ m. of-sheet c (rw held-is at m), λ m. rw held-is (from-sheet c m));
+      stamped = λ e m.
+          ⊎-elim (λ s. s) (λ n. absurd (no-inner (f .sound) (can-fill .none-yet) e n)) (entries-at-last (f .sound) (fill .holding) (fill .stands) set-clock few once (fill .renews) e m);
       as-long = at-last .same-length ∙ f .as-long;
       rest-kept = rw capacity-same at (rest-at-last (f .sound) (fill .holding) (fill .stands) set-clock few once) ∙ f .rest-kept;
     }

@@ -15,7 +15,7 @@ use Rattle.table.specs.Scan.{leaves-in}
 use Rattle.tree.specs.Weights.{SameWeights, same-refl, same-trans, same-sym, same-append, same-length}
 use Rattle.tree.specs.Moved.{moved-out}
 use Rattle.tree.specs.Whole.{whole-mended}
-use Rattle.tree.specs.Holding.{leaves, Holding, Stands, stands-all, stands-then, stands-capacity, stands-ample, kept-stands}
+use Rattle.tree.specs.Holding.{leaves, Holding, RenewsAll, Stands, stands-all, stands-then, stands-capacity, stands-ample, kept-stands}
 use Rattle.tree.specs.Goes.{Goes}
 use Rattle.tree.specs.Takes.{CanTake, Taken, Takes}
 use Rattle.tree.specs.Settle.{Loose, Settled}
@@ -31,6 +31,7 @@ pub record Clearing (w : List ℤ) (minute id : ℤ) (v : List ℤ) : Type 0 whe
   pub gone : List Entry
   pub all-go : (x : Entry) → x ∈ gone → Goes minute id (cellOf x)
   pub parted : SameWeights (leaves w) (gone ++ leaves v)
+  pub renews : RenewsAll minute w v
 
 -- all that go
 pub record Cleared (w : List ℤ) (minute id : ℤ) (v : List ℤ) : Type 0 where
@@ -43,7 +44,7 @@ pub record ClearsOne (w : List ℤ) (minute id : ℤ) (r : Bool) (v : List ℤ) 
   pub one : r ≡ true → Clearing w minute id v × (length (leaves v) < length (leaves w))
 
 pub clearing-none : {w : List ℤ} {minute id : ℤ} → Holding w minute → Clearing w minute id w
-clearing-none {w} h = record { holding = h; stands = stands-all (capacity w) w; gone = []; all-go = λ x m. absurd (List·Memᴰ·not-nil m); parted = same-refl }
+clearing-none {w} h = record { holding = h; stands = stands-all (capacity w) w; gone = []; all-go = λ x m. absurd (List·Memᴰ·not-nil m); parted = same-refl; renews = λ S new all. all }
 
 pub clearing-then : {w v u : List ℤ} {minute id : ℤ} → Clearing w minute id v → Clearing v minute id u → Clearing w minute id u
 clearing-then {u} a b = record {
@@ -52,6 +53,7 @@ clearing-then {u} a b = record {
   gone = a .gone ++ b .gone;
   all-go = λ x m. ⊎-elim (a .all-go x) (b .all-go x) (List·Memᴰ·append-cases (a .gone) m);
   parted = rw (append-assoc (a .gone) (b .gone) (leaves u)) (same-trans (a .parted) (same-append {l = a .gone} same-refl (b .parted)));
+  renews = λ S new all. b .renews S new (a .renews S new all);
 }
 
 -- ---- from the root
@@ -96,6 +98,9 @@ module _ {w : List ℤ} {minute id : ℤ} {v : List ℤ} (h : Holding w minute) 
   taken-leaves : SameWeights (leaves w) (t .entry ∷ leaves v)
   taken-leaves = rw (root-same, height-same) (moved-out (t .out .mended .moved))
 
+  taken-renews : RenewsAll minute w v
+  taken-renews = rw (root-same, height-same) (t .out .mended .renews)
+
   pub cleared-one : {u : List ℤ} → Settled v minute u → Clearing w minute id u × (length (leaves u) < length (leaves w))
   cleared-one {u} s = (
     record {
@@ -104,6 +109,7 @@ module _ {w : List ℤ} {minute id : ℤ} {v : List ℤ} (h : Holding w minute) 
       gone = t .entry ∷ [];
       all-go = λ x m. subst (λ (y : Entry). Goes minute id (cellOf y)) (sym (List·Memᴰ·eq-of-singleton m)) (t .goes);
       parted = same-trans taken-leaves (same-append {l = t .entry ∷ []} same-refl (same-sym (s .same-leaves)));
+    renews = λ S new all. s .renews S new (taken-renews S new all);
     },
     omega (arith, same-length taken-leaves, same-length (s .same-leaves)),
   )

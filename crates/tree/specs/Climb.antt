@@ -1,36 +1,38 @@
 -- A change below a child, and the node above it mended: its entry worked out afresh, or its child joined with another or sharing with it.
 use mathlib.Core.Path.{_≡_, refl, ap}
 use mathlib.Core.Logic.{⊎-elim}
-use mathlib.Core.List.{List, [], _∷_, _++_, List·Memᴰ·cases-cons, Memᴰ·append-left, Memᴰ·append-right}
+use mathlib.Core.List.{List, [], _∷_, _++_, List·Memᴰ·head, List·Memᴰ·tail, List·Memᴰ·cases-cons, Memᴰ·append-left, Memᴰ·append-right}
 use Prim.Native.Nat.{ℕ, zero, suc, _+_}
 use native.Mathlib.Omega.{arith}
 use lib.IntN.{ℤ}
 use Rattle.whole.specs.Lists.{_∈_, _⊆_}
-use Rattle.node.specs.Entry.{Entry, childOf}
+use Rattle.node.specs.Entry.{Entry, childOf, stampOf}
 use Rattle.table.specs.Tree.{Nodes, TreeSound}
 use Rattle.table.specs.Reach.{flat-in}
 use Rattle.table.specs.Scan.{SoundIn, sound-in}
 use Rattle.tree.specs.Weights.{SameWeights, same-refl, same-sym, same-trans, same-append, same-swap, same-entries, visits, Once, isNode, under, sound-in-frame, sound-has, sound-head, sound-tail}
+use Rattle.tree.specs.Inner.{AllInner, InnerIn, Renews, inner-part, inner-has, inner-in-frame}
 use Rattle.tree.specs.Moved.{Moved, Fresh, noWeight, noNode, moved-as, moved-trans, moved-down, down-agree, down-has, down-once}
-use Rattle.tree.specs.Regroup.{children, child-one, child-two, for-one, for-two, Regrouped, Afresh, regroup-as, regroup-once, regroup-sound, refresh, split, split-moved, split-sound, join, share}
+use Rattle.tree.specs.Regroup.{children, child-one, child-two, for-one, for-two, Regrouped, Afresh, regroup-as, regroup-once, regroup-sound, regroup-renews, refresh, split, split-moved, split-sound, join, share}
 
 -- what moved below node i, below which no node is met twice, and which is sound again
 pub record Mended (cells : ℕ) (clock : ℤ) (N N′ : Nodes) (h i : ℕ) (put out : (Entry → ℕ) → ℕ) (got gone : ℕ → ℕ) : Type 0 where
   pub moved : Moved N N′ h i put out got gone
   pub once : Once N′ h i
   pub sound : TreeSound N′ cells clock h i
+  pub renews : Renews clock N h i N′ h i
 
 -- after another change
 pub mended-after : {cells : ℕ} {clock : ℤ} {N N₁ N₂ : Nodes} {h i : ℕ} {put out put′ out′ : (Entry → ℕ) → ℕ} {got gone got′ gone′ : ℕ → ℕ}
-    → Moved N N₁ h i put out got gone → Mended cells clock N₁ N₂ h i put′ out′ got′ gone′
+    → Mended cells clock N N₁ h i put out got gone → Mended cells clock N₁ N₂ h i put′ out′ got′ gone′
     → Mended cells clock N N₂ h i (λ φ. put φ + put′ φ) (λ φ. out φ + out′ φ) (λ j. got j + got′ j) (λ j. gone j + gone′ j)
-mended-after a b = record { moved = moved-trans a (b .moved); once = b .once; sound = b .sound }
+mended-after a b = record { moved = moved-trans (a .moved) (b .moved); once = b .once; sound = b .sound; renews = λ S new all. b .renews S new (a .renews S new all) }
 
 -- the same change, written otherwise
 pub mended-as : {cells : ℕ} {clock : ℤ} {N N′ : Nodes} {h i : ℕ} {put out put′ out′ : (Entry → ℕ) → ℕ} {got gone got′ gone′ : ℕ → ℕ} → Mended cells clock N N′ h i put out got gone
     → ((φ : Entry → ℕ) → put φ + out′ φ ≡ put′ φ + out φ) → ((j : ℕ) → got j + gone′ j ≡ got′ j + gone j)
     → ((j : ℕ) → visits j N h i ≡ 0 → got′ j ≡ 0 → got j ≡ 0) → Mended cells clock N N′ h i put′ out′ got′ gone′
-mended-as m weights nodes in-got = record { moved = moved-as (m .moved) weights nodes in-got; once = m .once; sound = m .sound }
+mended-as m weights nodes in-got = record { moved = moved-as (m .moved) weights nodes in-got; once = m .once; sound = m .sound; renews = m .renews }
 
 -- a child of a sound node is split: some of its entries stay, for the entry a, and the others go to node f, which was not met, for the entry b
 pub split-mended : (cells : ℕ) (clock : ℤ) (N N′ : Nodes) (h i f : ℕ) {e a b : Entry} {rest : List Entry} → Once N (suc h) i → TreeSound N cells clock (suc h) i
@@ -45,6 +47,7 @@ split-mended cells clock N N′ h i f {e} {rest} once sound has has′ child chi
       sound =
           split-sound N N′ cells clock h i once f has has′ child child-new parted fresh other
           (sound-tail N cells clock (suc h) e rest all) (sound-head N cells clock h e rest all .1) afresh-a afresh-b;
+      renews = regroup-renews (split N N′ cells clock h i once f has has′ child child-new parted fresh other) clock (for-two (λ d. stampOf d ≡ clock) (afresh-a .stamped) (afresh-b .stamped));
     }
 
 -- node i has the entry e, whose child is mended, and the entries rest, which are sound
@@ -61,6 +64,15 @@ module _ (cells : ℕ) (clock : ℤ) (i : ℕ) {N N₁ : Nodes} {h : ℕ} {e : E
   pub climb-rest : SoundIn N₁ cells clock (suc h) rest
   climb-rest = sound-in-frame N N₁ cells clock (suc h) rest (down-agree i has once fresh (m .moved)) rest-sound
 
+  -- the change below the child, seen from i
+  climb-renews : Renews clock N (suc h) i N₁ (suc h) i
+  unfolding AllInner InnerIn
+  climb-renews S new all = λ d n.
+      let both = inner-has S N (suc h) i has all in
+      let own = both e (List·Memᴰ·head refl) in
+      let others = inner-in-frame S N N₁ (suc h) rest (down-agree i has once fresh (m .moved)) (inner-part S N (suc h) (λ c k. List·Memᴰ·tail k) both) in
+      ⊎-elim (λ (q : d ≡ e). rw q (own .0, m .renews S new (own .1))) (others d) (List·Memᴰ·cases-cons (same-entries climb-has d n))
+
   -- e and some of the others are regrouped; of their children `freed` go out and none comes in
   pub climb : {N₂ : Nodes} {others olds news rest′ : List Entry} {gone′ : ℕ → ℕ} (freed : ℕ → ℕ) → SameWeights rest (others ++ rest′) → olds ⊆ e ∷ others
       → Regrouped N₁ N₂ h i olds news rest′ → ((d : Entry) → d ∈ news → Afresh N₂ cells clock h d)
@@ -73,6 +85,7 @@ module _ (cells : ℕ) (clock : ℤ) (i : ℕ) {N N₁ : Nodes} {h : ℕ} {e : E
     sound = regroup-sound r cells clock
         (λ d n. climb-rest d (same-entries (same-sym parts) d (Memᴰ·append-right others n)))
         (under-sound h (λ o n. child-sound o (from o n))) afresh;
+    renews = λ S new all. regroup-renews r clock (λ d n. afresh d n .stamped) S new (climb-renews S new all);
   }
     where
       child-sound : (o : Entry) → o ∈ e ∷ others → TreeSound N₁ cells clock h (childOf o)

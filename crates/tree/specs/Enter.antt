@@ -69,4 +69,4 @@ module _ {cells : ℕ} {clock : ℤ} {N : Nodes} {h i : ℕ} (enter : Enter cell
 
       -- and what is put in then is put in over all
       pub put-split : {N″ : Nodes} {x : Entry} → PutIn cells clock N′ N″ (suc h) i x → PutIn cells clock N N″ (suc h) i x
-      put-split p = put-after f (split-entered .moved) free all-used′ (omega (arith, same-length has, same-length has′)) p
+      put-split p = put-after f split-entered free all-used′ (omega (arith, same-length has, same-length has′)) p

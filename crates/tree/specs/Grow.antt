@@ -20,7 +20,9 @@ use Rattle.table.specs.Tree.{Nodes, isLeaf, leavesOf, nodesOf, TreeSound}
 use Rattle.tree.specs.Weights.{SameWeights, same-refl, same-trans, isNode}
 use Rattle.tree.specs.Moved.{noWeight, noNode, moved-same}
 use Rattle.tree.specs.Used.{Free, used, free-one}
-use Rattle.tree.specs.Root.{grow-moved}
+use Rattle.tree.specs.Inner.{Renews}
+use Rattle.tree.specs.Regroup.{Afresh}
+use Rattle.tree.specs.Root.{grow-moved, grow-renews}
 use Rattle.tree.specs.Climb.{Mended}
 use Rattle.tree.specs.FirstFree.{FirstFree, found-free}
 use Rattle.tree.specs.EntryAfresh.{entryAbove, child-above, above-same, above-afresh, sound-in-range, is-node-at}
@@ -29,7 +31,7 @@ use Rattle.tree.specs.Headed.{Rooted, headed-same}
 use Rattle.tree.specs.Whole.{Whole, whole-fresh, whole-used, whole-two, whole-grow, grown-used, whole-mended}
 use Rattle.tree.specs.Part.{childAt, CanPartChild, Parted}
 use Rattle.tree.specs.PartLaws.{many, parted-mended}
-use Rattle.tree.specs.Holding.{leaves, Holding, Stands, stands-all, stands-then, stands-capacity, stands-ample, kept-stands, headed-stands}
+use Rattle.tree.specs.Holding.{leaves, Holding, RenewsAll, Stands, stands-all, stands-then, stands-capacity, stands-ample, kept-stands, headed-stands}
 use Rattle.tree.specs.Tall.{tall}
 
 -- the table has room for another cell, and its root is full
@@ -43,11 +45,12 @@ pub record Grown (w : List ℤ) (minute : ℤ) (v : List ℤ) : Type 0 where
   pub holding : Holding v minute
   pub stands : Stands (capacity w) w v
   pub same-leaves : SameWeights (leaves v) (leaves w)
+  pub renews : RenewsAll minute w v
   pub room : length (entriesAt v (root v)) < fullNode
 
 -- a root with room need not grow
 pub grown-none : {w : List ℤ} {minute : ℤ} → Holding w minute → length (entriesAt w (root w)) < fullNode → Grown w minute w
-grown-none {w} h room = record { holding = h; stands = stands-all (capacity w) w; same-leaves = same-refl; room = room }
+grown-none {w} h room = record { holding = h; stands = stands-all (capacity w) w; same-leaves = same-refl; renews = λ S new all. all; room = room }
 
 module _ {w : List ℤ} {minute : ℤ} (can : CanGrow w minute) where
   abbrev N : Nodes
@@ -122,11 +125,13 @@ module _ {w : List ℤ} {minute : ℤ} (can : CanGrow w minute) where
       old-some : 0 < length (entriesAt w (childOf e))
       old-some = rw to-root some
 
+      e-afresh : Afresh (entriesAt v) (capacity w) minute (height w) e
+      e-afresh =
+          rw (← above-same N (entriesAt v) (isLeaf (height w)) minute (root w) root-same)
+          (above-afresh (entriesAt v) cells minute (height w) (root w) (can .holding .is-minute) (whole .root-in) (rw root-same (omega (arith, can .full))))
+
       grown-whole : Whole (capacity w) minute (entriesAt v) (suc (height w)) above
-      grown-whole =
-          whole-grow above old old-some free above-in only (changed-others put)
-          (rw (← above-same N (entriesAt v) (isLeaf (height w)) minute (root w) root-same)
-          (above-afresh (entriesAt v) cells minute (height w) (root w) (can .holding .is-minute) (whole .root-in) (rw root-same (omega (arith, can .full)))))
+      grown-whole = whole-grow above old old-some free above-in only (changed-others put) e-afresh
 
       module _ {u : List ℤ} (set-root : Rooted v above (height w + 1) u) where
         same : entriesAt u ≡ entriesAt v
@@ -176,6 +181,7 @@ module _ {w : List ℤ} {minute : ℤ} (can : CanGrow w minute) where
             };
             stands = stands-now;
             same-leaves = rw (root-is, height-is) (same-trans (moved-same (mended .moved)) below);
+            renews = rw (root-is, height-is) (λ S new all. mended .renews S new (above-renews S new all));
             room = rw root-is (omega (arith, two-entries));
           }
             where
@@ -184,6 +190,9 @@ module _ {w : List ℤ} {minute : ℤ} (can : CanGrow w minute) where
 
               two-entries : length (entriesAt x above) ≡ 2
               two-entries = omega (arith, alone, many (can .holding .is-minute) (whole-now .sound) (can-part-root .has) p)
+
+              above-renews : Renews minute (entriesAt w) (height w) (root w) (entriesAt u) (suc (height w)) above
+              above-renews = rw (same, ← to-root) (grow-renews N (entriesAt v) (height w) above only (whole-fresh old old-some above free) (changed-others put) minute (e-afresh .stamped))
 
               below : SameWeights (leavesOf (entriesAt u) (suc (height w)) above) (leaves w)
               below = rw (same, ← to-root) (moved-same (grow-moved N (entriesAt v) (height w) above only (whole-fresh old old-some above free) (changed-others put)))

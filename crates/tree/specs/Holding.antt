@@ -12,6 +12,7 @@ use Rattle.track.specs.Numbers.{IsMinute}
 use Rattle.node.specs.Entry.{Entry, countWord, IsCount}
 use Rattle.table.specs.Header.{capacityWord, capacity, rootWord, root, heightWord, height, wordsFor, IsNode, entriesAt}
 use Rattle.table.specs.Tree.{leavesOf}
+use Rattle.tree.specs.Inner.{Renews}
 use Rattle.tree.specs.Kept.{Counted, Ample, Kept}
 use Rattle.tree.specs.Headed.{Headed, Rooted, Clocked}
 use Rattle.tree.specs.Whole.{Whole}
@@ -28,6 +29,10 @@ pub record Holding (w : List ℤ) (minute : ℤ) : Type 0 where
   pub height-in : pos 0 ≤ℤ heightWord w
   pub whole : Whole (capacity w) minute (entriesAt w) (height w) (root w)
   pub root-filled : 0 < height w → 2 ≤ length (entriesAt w (root w))
+
+-- what has become of the inner entries: those that are not stamped at the minute stood there before
+abbrev pub RenewsAll : ℤ → List ℤ → List ℤ → Type 0
+RenewsAll minute w v = Renews minute (entriesAt w) (height w) (root w) (entriesAt v) (height v) (root v)
 
 pub record Stands (cells : ℕ) (w v : List ℤ) : Type 0 where
   pub same-length : length v ≡ length w

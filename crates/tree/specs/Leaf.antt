@@ -8,6 +8,7 @@ use Rattle.track.specs.Small.{CellInRange}
 use Rattle.node.specs.Entry.{Entry, cellOf, childOf}
 use Rattle.table.specs.Tree.{Nodes, leavesOf, TreeSound}
 use Rattle.table.specs.Reach.{flat-in}
+use Rattle.tree.specs.Inner.{AllInner, Renews}
 use Rattle.tree.specs.Weights.{sumOver, is-other, visits-node, visits-leaf}
 use Rattle.tree.specs.Moved.{Moved, noNode}
 
@@ -26,6 +27,11 @@ module _ (N N′ : Nodes) (i : ℕ) where
 pub leaf-sound : (N : Nodes) (cells : ℕ) (clock : ℤ) (i : ℕ) → ((e : Entry) → e ∈ N i → CellInRange (cellOf e)) → TreeSound N cells clock zero i
 unfolding TreeSound
 leaf-sound N cells clock i each = each
+
+-- it has no inner entries
+pub leaf-renews : (clock : ℤ) (N N′ : Nodes) (i : ℕ) → Renews clock N zero i N′ zero i
+unfolding AllInner
+leaf-renews clock N N′ i S new all = tt
 
 -- every cell below a sound node is in range
 pub leaf-in-range : (N : Nodes) (cells : ℕ) (clock : ℤ) (h i : ℕ) → TreeSound N cells clock h i → (x : Entry) → x ∈ leavesOf N h i → CellInRange (cellOf x)

@@ -1,4 +1,5 @@
 pub mod Weights
+pub mod Inner
 pub mod Places
 pub mod Moved
 pub mod Regroup
@@ -34,6 +35,7 @@ pub mod Clear
 pub mod Staying
 pub mod Steps
 pub mod StayingLaws
+pub mod Renewed
 pub mod SoundWhole
 pub mod Stepping
 pub mod Outcomes

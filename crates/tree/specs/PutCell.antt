@@ -16,7 +16,7 @@ use Rattle.tree.specs.Whole.{whole-mended}
 use Rattle.tree.specs.Enter.{enter-root}
 use Rattle.tree.specs.Way.{CanPut}
 use Rattle.tree.specs.Puts.{Puts}
-use Rattle.tree.specs.Holding.{leaves, Holding, Stands, stands-then, stands-all, stands-capacity, stands-ample, kept-stands}
+use Rattle.tree.specs.Holding.{leaves, Holding, RenewsAll, Stands, stands-then, stands-all, stands-capacity, stands-ample, kept-stands}
 use Rattle.tree.specs.Grow.{Grown}
 
 -- the table has room for another cell
@@ -29,6 +29,7 @@ pub record PutCell (w : List ℤ) (minute : ℤ) (x : Entry) (v : List ℤ) : Ty
   pub holding : Holding v minute
   pub stands : Stands (capacity w) w v
   pub one-more : SameWeights (leaves v) (x ∷ leaves w)
+  pub renews : RenewsAll minute w v
 
 -- the root is entered where it has room
 pub can-put : {w : List ℤ} {minute : ℤ} → HasRoom w minute → length (entriesAt w (root w)) < fullNode → CanPut w minute (height w) (root w)
@@ -53,6 +54,7 @@ put-cell {w} {minute} {x} {v} h p = record {
   };
   stands = stands;
   one-more = rw (root-same, height-same) (moved-put (p .put .mended .moved));
+  renews = rw (root-same, height-same) (p .put .mended .renews);
 }
   where
     stands : Stands (capacity w) w v
@@ -74,4 +76,5 @@ module _ {w : List ℤ} {minute : ℤ} {v : List ℤ} (g : Grown w minute v) whe
     holding = p .holding;
     stands = stands-then (g .stands) (rw (stands-capacity (g .stands)) at (p .stands));
     one-more = same-trans (p .one-more) (same-append {l = x ∷ []} same-refl (g .same-leaves));
+    renews = λ S new all. p .renews S new (g .renews S new all);
   }

@@ -12,9 +12,9 @@ use Rattle.track.specs.Small.{CellInRange}
 use Rattle.node.specs.Entry.{Entry, cellOf, childOf}
 use Rattle.table.specs.Tree.{Nodes, TreeSound}
 use Rattle.tree.specs.Weights.{sum-cons, SameWeights, same-length, same-entries, sound-has, sound-head, sound-tail, Once, isNode, not-other}
-use Rattle.tree.specs.Moved.{Moved, noWeight, noNode}
+use Rattle.tree.specs.Moved.{noWeight, noNode}
 use Rattle.tree.specs.Regroup.{Afresh}
-use Rattle.tree.specs.Leaf.{leaf-moved, leaf-sound}
+use Rattle.tree.specs.Leaf.{leaf-moved, leaf-sound, leaf-renews}
 use Rattle.tree.specs.Climb.{Mended, mended-after, mended-as, climb-refresh}
 use Rattle.tree.specs.Used.{Free, AllUsed, free-unmet, free-back, sound-used}
 
@@ -38,6 +38,7 @@ module _ (cells : ℕ) (clock : ℤ) (N N′ : Nodes) {x : Entry} where
           moved = moved;
           once = λ j. omega (arith, moved .met j, once j);
           sound = leaf-sound N′ cells clock i (λ e m. ⊎-elim (λ (q : e ≡ x). rw q in-range) (sound e) (List·Memᴰ·cases-cons (same-entries more e m)));
+          renews = leaf-renews clock N N′ i;
         };
         were-free = λ j some. absurd (not-suc-le-zero some);
         no-fewer = omega (arith, same-length more);
@@ -60,7 +61,7 @@ module _ (cells : ℕ) (clock : ℤ) (N N′ : Nodes) {x : Entry} where
       }
 
 -- after a change that put the free node f below i and no entry in or out, as a split does
-pub put-after : {cells : ℕ} {clock : ℤ} {N N₁ N′ : Nodes} {h i : ℕ} {x : Entry} (f : ℕ) → Moved N N₁ h i noWeight noWeight (λ j. isNode j f) noNode → Free N f → AllUsed N₁ h i
+pub put-after : {cells : ℕ} {clock : ℤ} {N N₁ N′ : Nodes} {h i : ℕ} {x : Entry} (f : ℕ) → Mended cells clock N N₁ h i noWeight noWeight (λ j. isNode j f) noNode → Free N f → AllUsed N₁ h i
     → length (N i) ≤ length (N₁ i) → PutIn cells clock N₁ N′ h i x → PutIn cells clock N N′ h i x
 put-after {N} {x} f m free all more p = record {
   got = λ j. isNode j f + p .got j;
@@ -71,4 +72,4 @@ put-after {N} {x} f m free all more p = record {
   where
     by : (j : ℕ) → 0 < isNode j f + p .got j → Dec (j ≡ f) → Free N j
     by j some (yes q) = rw q free
-    by j some (no ne) = free-back j m all (p .were-free j (omega (arith, not-other ne)))
+    by j some (no ne) = free-back j (m .moved) all (p .were-free j (omega (arith, not-other ne)))

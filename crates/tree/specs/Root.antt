@@ -1,15 +1,16 @@
 -- The root changed: a new one above it, and one that gives way to its only child.
-use mathlib.Core.Path.{_≡_, ap}
-use mathlib.Core.List.{[], _∷_, List·Memᴰ·eq-of-singleton}
+use mathlib.Core.Path.{_≡_, refl, ap}
+use mathlib.Core.List.{[], _∷_, List·Memᴰ·head, List·Memᴰ·eq-of-singleton}
 use Prim.Native.Nat.{ℕ, suc, _+_}
 use native.Mathlib.Omega.{arith}
 use lib.IntN.{ℤ}
 use Rattle.whole.specs.Times.{times, in-times}
-use Rattle.node.specs.Entry.{Entry, childOf}
+use Rattle.node.specs.Entry.{Entry, childOf, stampOf}
 use Rattle.table.specs.Tree.{Nodes, TreeSound}
 use Rattle.table.specs.Frame.{Agree, leaves-frame, nodes-frame, tree-frame}
 use Rattle.table.specs.Scan.{sound-in}
 use Rattle.tree.specs.Weights.{sumOver, weight, visits, Once, isNode, is-self, is-other, same-as, weight-has, visits-has, weight-child, visits-child, weight-none, visits-none}
+use Rattle.tree.specs.Inner.{AllInner, Renews, inner-frame}
 use Rattle.tree.specs.Moved.{MovedTo, noWeight, noNode}
 use Rattle.tree.specs.Regroup.{Afresh, afresh-sound}
 
@@ -39,6 +40,11 @@ module _ (N N′ : Nodes) (h r : ℕ) {e : Entry} (only : N′ r ≡ e ∷ []) (
       let below = tree-frame N N′ cells clock h (childOf e) grow-agree sound in
       rw (List·Memᴰ·eq-of-singleton (rw only at m)) (afresh-sound afresh (sound-in N′ cells clock h (childOf e) below), below)
 
+  pub grow-renews : (clock : ℤ) → stampOf e ≡ clock → Renews clock N h (childOf e) N′ (suc h) r
+  unfolding AllInner
+  grow-renews clock stamped S new all = λ d m.
+      rw (List·Memᴰ·eq-of-singleton (rw only at m)) (new e stamped, inner-frame S N N′ h (childOf e) grow-agree all)
+
 -- giving way: the root r with the only entry e is left out, and e's child is the root
 module _ (N N′ : Nodes) (h r : ℕ) {e : Entry} (only : N r ≡ e ∷ []) (once : Once N (suc h) r) (other : (j : ℕ) → (j ≡ r → ⊥) → N′ j ≡ N j) where
   way-agree : Agree N N′ h (childOf e)
@@ -50,6 +56,10 @@ module _ (N N′ : Nodes) (h r : ℕ) {e : Entry} (only : N r ≡ e ∷ []) (onc
     weight = λ φ. omega (arith, only-leaves N h r only φ, ap (sumOver φ) (leaves-frame N N′ h (childOf e) way-agree));
     met = λ j. omega (arith, only-nodes N h r only j, ap (times j) (nodes-frame N N′ h (childOf e) way-agree));
   }
+
+  pub way-renews : (clock : ℤ) → Renews clock N (suc h) r N′ h (childOf e)
+  unfolding AllInner
+  way-renews clock S new all = inner-frame S N N′ h (childOf e) way-agree (all e (rw only (List·Memᴰ·head refl)) .1)
 
   pub way-sound : (cells : ℕ) (clock : ℤ) → TreeSound N cells clock h (childOf e) → TreeSound N′ cells clock h (childOf e)
   way-sound cells clock sound = tree-frame N N′ cells clock h (childOf e) way-agree sound

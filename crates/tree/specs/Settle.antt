@@ -18,13 +18,13 @@ use Rattle.table.specs.Tree.{leavesOf}
 use Rattle.tree.specs.Weights.{SameWeights, same-refl, same-as, sound-has, sound-head}
 use Rattle.tree.specs.Moved.{moved-same}
 use Rattle.tree.specs.Regroup.{child-other}
-use Rattle.tree.specs.Root.{way-moved}
+use Rattle.tree.specs.Root.{way-moved, way-renews}
 use Rattle.tree.specs.EntryAfresh.{is-node-at}
 use Rattle.tree.specs.Kept.{Ample, ample-in, ample-low, changed-kept, changed-here, changed-others}
 use Rattle.tree.specs.Headed.{Rooted, headed-same}
 use Rattle.tree.specs.Whole.{Whole, whole-way}
 use Rattle.tree.specs.Part.{childAt}
-use Rattle.tree.specs.Holding.{leaves, Holding, Stands, stands-all, stands-then, stands-capacity, stands-ample, kept-stands, headed-stands}
+use Rattle.tree.specs.Holding.{leaves, Holding, RenewsAll, Stands, stands-all, stands-then, stands-capacity, stands-ample, kept-stands, headed-stands}
 
 -- as `Holding`, but that an inner root may have one entry only
 pub record Loose (w : List ℤ) (minute : ℤ) : Type 0 where
@@ -44,6 +44,7 @@ pub record Settled (w : List ℤ) (minute : ℤ) (v : List ℤ) : Type 0 where
   pub holding : Holding v minute
   pub stands : Stands (capacity w) w v
   pub same-leaves : SameWeights (leaves v) (leaves w)
+  pub renews : RenewsAll minute w v
 
 -- at whatever minute it is
 abbrev pub Settles : List ℤ → List ℤ → Type 0
@@ -55,6 +56,7 @@ settled-none {w} filled minute l = record {
   holding = record { ample = l .ample; is-minute = l .is-minute; root-in = l .root-in; height-in = l .height-in; whole = l .whole; root-filled = filled };
   stands = stands-all (capacity w) w;
   same-leaves = same-refl;
+  renews = λ S new all. all;
 }
 
 only-one : (es : List Entry) → length es ≡ 1 → es ≡ getD es 0 [] ∷ []
@@ -101,6 +103,7 @@ module _ {w : List ℤ} {minute : ℤ} (l : Loose w minute) {h : ℕ} (tall : he
       };
       stands = stands;
       same-leaves = rw (same, root-is, height-is, tall) (moved-same (way-moved (entriesAt w) (entriesAt v) h (root w) only (before .once) (changed-others freed)));
+      renews = rw (same, root-is, height-is, tall) (way-renews (entriesAt w) (entriesAt v) h (root w) only (before .once) (changed-others freed) minute);
     }
       where
         same : entriesAt u ≡ entriesAt v

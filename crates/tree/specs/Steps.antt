@@ -1,8 +1,8 @@
 -- What a report and a drop answer, and the table that they leave.
 use mathlib.Core.Path.{_≡_}
 use mathlib.Core.Logic.{_⊎_, _↔_}
-use mathlib.Core.List.{List, [], _∷_, _++_}
-use Prim.Native.Nat.{ℕ}
+use mathlib.Core.List.{List, [], _∷_, _++_, flatMap}
+use Prim.Native.Nat.{ℕ, zero, suc}
 use lib.IntN.{ℤ}
 use lib.ListN.{length, drop}
 use lib.Signed.{_<ℤ_}
@@ -12,7 +12,9 @@ use Rattle.track.specs.Life.{LivesAt}
 use Rattle.track.specs.Refusals.{Reason, _when_, First, number}
 use Rattle.track.specs.Report.{reportReasons, keptCell}
 use Rattle.track.specs.declared.cell.Cell.{Cell}
-use Rattle.table.specs.Header.{capacityWord, capacity, clock, wordsFor}
+use Rattle.node.specs.Entry.{Entry, childOf, stampOf}
+use Rattle.table.specs.Header.{capacityWord, capacity, clock, root, height, wordsFor, entriesAt}
+use Rattle.table.specs.Tree.{Nodes}
 use Rattle.table.specs.Sound.{held, Live, Sound}
 use Rattle.tree.specs.declared.outcome.Outcome.{Outcome}
 use Rattle.tree.specs.declared.outcome.Outcome.the-variants.{Accepted, Refused}
@@ -21,6 +23,14 @@ use Rattle.tree.specs.declared.outcome.Outcome.the-variants.{Accepted, R
 abbrev pub outcomeNumber : Outcome → ℕ
 outcomeNumber Accepted = 0
 outcomeNumber (Refused r) = number r
+
+-- the inner entries that are reached from node i, which has h levels beneath it, and those of a table
+unfoldable pub innersOf : Nodes → ℕ → ℕ → List Entry
+innersOf N zero i = []
+innersOf N (suc h) i = N i ++ flatMap (λ e. innersOf N h (childOf e)) (N i)
+
+abbrev pub inners : List ℤ → List Entry
+inners w = innersOf (entriesAt w) (height w) (root w)
 
 -- c is held, lives at the minute, and is another cell than the one with this identifier
 pub record Stays (w : List ℤ) (minute id : ℤ) (c : Cell) : Type 0 where
@@ -48,6 +58,8 @@ pub record Step (w w′ : List ℤ) (minute : ℤ) (Left : Cell → Type 0) : Ty
   pub capacity-is : capacityWord w′ ≡ capacityWord w
   pub clock-is : clock w′ ≡ minute
   pub live : (c : Cell) → Live w′ c ↔ Left c
+  -- an inner entry was worked out at the minute, or stood there before with all its words
+  pub afresh-or-kept : (e : Entry) → e ∈ inners w′ → (stampOf e ≡ minute) ⊎ (e ∈ inners w)
   pub as-long : length w′ ≡ length w
   pub rest-kept : drop (wordsFor (capacity w)) w′ ≡ drop (wordsFor (capacity w)) w
 

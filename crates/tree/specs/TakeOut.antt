@@ -12,7 +12,7 @@ use Rattle.table.specs.Scan.{SoundIn}
 use Rattle.tree.specs.Weights.{sum-cons, SameWeights, same-refl, same-sym, same-trans, same-append, same-swap, same-length, same-entries, sound-has, sound-head, sound-tail, Once, isNode}
 use Rattle.tree.specs.Moved.{Moved, noWeight, noNode, fresh-none, moved-down}
 use Rattle.tree.specs.Regroup.{Afresh, refresh-moved, join-moved, share-moved}
-use Rattle.tree.specs.Leaf.{leaf-moved, leaf-sound}
+use Rattle.tree.specs.Leaf.{leaf-moved, leaf-sound, leaf-renews}
 use Rattle.tree.specs.Climb.{Mended, climb-has, climb-once, climb-refresh, climb-join, climb-into, climb-share}
 use Rattle.tree.specs.Used.{Free, free-node, freed-trans}
 
@@ -35,6 +35,7 @@ out-leaf cells clock N N′ i {x} once sound less other =
         moved = moved;
         once = λ j. omega (arith, moved .met j, once j);
         sound = leaf-sound N′ cells clock i (λ e m. sound e (same-entries (same-sym less) e (List·Memᴰ·tail m)));
+        renews = leaf-renews clock N N′ i;
       };
       are-free = λ j some. absurd (not-suc-le-zero some);
       one-fewer = omega (arith, same-length less);

@@ -374,7 +374,7 @@ abbrev pub AgreeIn : Nodes → Nodes → ℕ → List Entry → Type 0
 AgreeIn N N′ h es = (j : ℕ) → 0 < visitsIn j N h es → N′ j ≡ N j
 
 module _ (N N′ : Nodes) where
-  agree-child : (h : ℕ) {e : Entry} {es : List Entry} → AgreeIn N N′ (suc h) es → e ∈ es → Agree N N′ h (childOf e)
+  pub agree-child : (h : ℕ) {e : Entry} {es : List Entry} → AgreeIn N N′ (suc h) es → e ∈ es → Agree N N′ h (childOf e)
   unfolding entryVisits
   agree-child h {e} {es} same m j n =
       same j (omega (arith, sum-at-least (entryVisits j N (suc h)) m, visits-sum N j (suc h) es, in-times n))

@@ -1,0 +1,72 @@
+-- The inner entries of a tree, and a test that all of them pass: it is kept by a change whose new entries pass it.
+use mathlib.Core.Path.{_≡_, refl}
+use mathlib.Core.Bool.{Bool, true}
+use mathlib.Core.Logic.{⊎-elim}
+use mathlib.Core.List.{List, [], _∷_, _++_, flatMap, List·Memᴰ·head, List·Memᴰ·eq-of-singleton, List·Memᴰ·append-cases, Memᴰ·append-left, Memᴰ·append-right}
+use Prim.Native.Nat.{ℕ, zero, suc, _<_}
+use lib.IntN.{ℤ}
+use Rattle.whole.specs.Lists.{_∈_, _⊆_}
+use Rattle.whole.specs.Times.{in-times, times-in}
+use Rattle.node.specs.Entry.{Entry, childOf, stampOf}
+use Rattle.table.specs.Tree.{Nodes, nodesOf}
+use Rattle.table.specs.Reach.{flat-in, in-flat, node-self, node-up}
+use Rattle.table.specs.Frame.{Agree}
+use Rattle.tree.specs.Weights.{SameWeights, same-sym, same-entries, AgreeIn, agree-child, under}
+
+-- every inner entry that is reached from node i, which has h levels beneath it, passes the test
+unfoldable pub AllInner : (Entry → Bool) → Nodes → ℕ → ℕ → Type 0
+AllInner S N zero i = Unit {0}
+AllInner S N (suc h) i = (e : Entry) → e ∈ N i → (S e ≡ true) × AllInner S N h (childOf e)
+
+-- and through some entries of such a node
+unfoldable pub InnerIn : (Entry → Bool) → Nodes → ℕ → List Entry → Type 0
+InnerIn S N zero es = Unit {0}
+InnerIn S N (suc h) es = (e : Entry) → e ∈ es → (S e ≡ true) × AllInner S N h (childOf e)
+
+-- a new entry, one stamped at the clock, passes it
+abbrev pub TakesNew : (Entry → Bool) → ℤ → Type 0
+TakesNew S clock = (e : Entry) → stampOf e ≡ clock → S e ≡ true
+
+-- what a change below node i does to the inner entries: those that are not stamped at the clock stood there before
+abbrev pub Renews : ℤ → Nodes → ℕ → ℕ → Nodes → ℕ → ℕ → Type 0
+Renews clock N h i N′ h′ i′ = (S : Entry → Bool) → TakesNew S clock → AllInner S N h i → AllInner S N′ h′ i′
+
+module _ (S : Entry → Bool) (N : Nodes) where
+  -- a node by its entries
+  pub inner-in : (h i : ℕ) → AllInner S N h i → InnerIn S N h (N i)
+  unfolding AllInner InnerIn
+  inner-in zero i all = all
+  inner-in (suc h) i all = all
+
+  pub in-inner : (h i : ℕ) → InnerIn S N h (N i) → AllInner S N h i
+  unfolding AllInner InnerIn
+  in-inner zero i all = all
+  in-inner (suc h) i all = all
+
+  pub inner-part : (h : ℕ) {es fs : List Entry} → es ⊆ fs → InnerIn S N h fs → InnerIn S N h es
+  unfolding InnerIn
+  inner-part zero part all = all
+  inner-part (suc h) part all = λ e m. all e (part e m)
+
+  pub inner-has : (h i : ℕ) {es : List Entry} → SameWeights (N i) es → AllInner S N h i → InnerIn S N h es
+  inner-has h i has all = inner-part h (same-entries (same-sym has)) (inner-in h i all)
+
+  -- below the entries of a node
+  pub inner-under : (h : ℕ) (es : List Entry) → InnerIn S N (suc h) es → InnerIn S N h (under N es)
+  unfolding InnerIn AllInner
+  inner-under zero es all = tt
+  inner-under (suc h) es all = λ e m. let f = flat-in (λ d. N (childOf d)) es m in all (f .0) (f .1) .1 e (f .2)
+
+-- two tables that agree on the nodes met
+module _ (S : Entry → Bool) (N N′ : Nodes) where
+  pub inner-frame : (h i : ℕ) → Agree N N′ h i → AllInner S N h i → AllInner S N′ h i
+  unfolding AllInner
+  inner-frame zero i same all = all
+  inner-frame (suc h) i same all = λ e m.
+      let n = rw (same i (node-self N (suc h) i)) at m in
+      (all e n .0, inner-frame h (childOf e) (λ j k. same j (node-up N h i n k)) (all e n .1))
+
+  pub inner-in-frame : (h : ℕ) (es : List Entry) → AgreeIn N N′ h es → InnerIn S N h es → InnerIn S N′ h es
+  unfolding InnerIn
+  inner-in-frame zero es same all = all
+  inner-in-frame (suc h) es same all = λ e m. (all e m .0, inner-frame h (childOf e) (agree-child N N′ h same m) (all e m .1))
