@@ -109,7 +109,7 @@ module _ {w : List ℤ} {minute id : ℤ} {v : List ℤ} (h : Holding w minute) 
       gone = t .entry ∷ [];
       all-go = λ x m. subst (λ (y : Entry). Goes minute id (cellOf y)) (sym (List·Memᴰ·eq-of-singleton m)) (t .goes);
       parted = same-trans taken-leaves (same-append {l = t .entry ∷ []} same-refl (same-sym (s .same-leaves)));
-    renews = λ S new all. s .renews S new (taken-renews S new all);
+      renews = λ S new all. s .renews S new (taken-renews S new all);
     },
     omega (arith, same-length taken-leaves, same-length (s .same-leaves)),
   )
