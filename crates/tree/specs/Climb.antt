@@ -108,13 +108,6 @@ module _ (cells : ℕ) (clock : ℤ) (i : ℕ) {N N₁ : Nodes} {h : ℕ} {e : E
     two-has : SameWeights (N₁ i) (e ∷ b ∷ rest′)
     two-has = same-trans climb-has (same-append {l = e ∷ []} same-refl beside)
 
-    -- the child takes the entries of b's child, which goes
-    pub climb-join : {e′ : Entry} → SameWeights (N₂ i) (e′ ∷ rest′) → childOf e′ ≡ childOf e → SameWeights (N₁ (childOf e) ++ N₁ (childOf b)) (N₂ (childOf e))
-        → Afresh N₂ cells clock h e′ → Mended cells clock N N₂ (suc h) i put out got (λ j. gone j + isNode j (childOf b))
-    climb-join {e′} has′ child joined afresh =
-        climb {others = b ∷ []} (λ j. isNode j (childOf b)) beside (λ o n. n) (join N₁ N₂ cells clock h i climb-once two-has other has′ child joined)
-        (for-one (Afresh N₂ cells clock h) afresh) (λ j. omega (arith, ap (isNode j) child, child-two e b j, child-one e′ j)) (λ j. refl)
-
     -- the child goes, and b's child takes its entries
     pub climb-into : {b′ : Entry} → SameWeights (N₂ i) (b′ ∷ rest′) → childOf b′ ≡ childOf b → SameWeights (N₁ (childOf b) ++ N₁ (childOf e)) (N₂ (childOf b))
         → Afresh N₂ cells clock h b′ → Mended cells clock N N₂ (suc h) i put out got (λ j. gone j + isNode j (childOf e))

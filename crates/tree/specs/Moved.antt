@@ -85,9 +85,6 @@ module _ {N N′ : Nodes} {h i h′ i′ : ℕ} {got gone : ℕ → ℕ} where
   pub moved-same : MovedTo N N′ h i h′ i′ noWeight noWeight got gone → SameWeights (leavesOf N′ h′ i′) (leavesOf N h i)
   moved-same m = record { same = λ φ. omega (arith, m .weight φ) }
 
-pub moved-none : (N : Nodes) (h i : ℕ) → Moved N N h i noWeight noWeight noNode noNode
-moved-none N h i = record { other = λ j z g. refl; weight = λ φ. refl; met = λ j. refl }
-
 -- ---- from a child to its parent: node i has the entry e and the entries rest, and something changed below e's child
 module _ (i : ℕ) {N N′ : Nodes} {h : ℕ} {e : Entry} {rest : List Entry} {put out : (Entry → ℕ) → ℕ} {got gone : ℕ → ℕ}
     (has : SameWeights (N i) (e ∷ rest)) (once : Once N (suc h) i) (fresh : Fresh N (suc h) i got) (m : Moved N N′ h (childOf e) put out got gone) where

@@ -167,11 +167,6 @@ module _ (N : Nodes) where
   sound-one : (cells : ℕ) (clock : ℤ) (h : ℕ) (a : Entry) → TreeSound N cells clock h (childOf a) → SoundIn N cells clock h (under N (a ∷ []))
   sound-one cells clock h a s = sound-part N cells clock h (same-entries (under-one a)) (sound-in N cells clock h (childOf a) s)
 
-  sound-two : (cells : ℕ) (clock : ℤ) (h : ℕ) (a b : Entry) → TreeSound N cells clock h (childOf a) → TreeSound N cells clock h (childOf b) → SoundIn N cells clock h (under N (a ∷ b ∷ []))
-  sound-two cells clock h a b s t =
-      sound-part N cells clock h (same-entries (under-two a b))
-      (sound-append N cells clock h (N (childOf a)) (N (childOf b)) (sound-in N cells clock h (childOf a) s) (sound-in N cells clock h (childOf b) t))
-
 pub for-one : (P : Entry → Type 0) {a : Entry} → P a → (e : Entry) → e ∈ a ∷ [] → P e
 for-one P p e m = rw (List·Memᴰ·eq-of-singleton m) p
 
@@ -200,9 +195,6 @@ module _ (N N′ : Nodes) (cells : ℕ) (clock : ℤ) (h i : ℕ) (once : Once N
 
     pub refresh-moved : Moved N N′ (suc h) i noWeight noWeight noNode noNode
     refresh-moved = regroup-as refresh (λ j. omega (arith, ap (isNode j) child, child-one e j, child-one e′ j))
-
-    pub refresh-sound : SoundIn N cells clock (suc h) rest → TreeSound N cells clock h (childOf e) → Afresh N′ cells clock h e′ → TreeSound N′ cells clock (suc h) i
-    refresh-sound s t a = regroup-sound refresh cells clock s (sound-one N cells clock h e t) (for-one (Afresh N′ cells clock h) a)
 
   -- split: some of the entries of e's child stay, for the entry a, and the others go to node f, which was not met, for the entry b
   module _ {e a b : Entry} {rest : List Entry} (f : ℕ) (has : SameWeights (N i) (e ∷ rest)) (has′ : SameWeights (N′ i) (a ∷ b ∷ rest)) (child : childOf a ≡ childOf e) (child-new : childOf b ≡ f)
@@ -249,9 +241,6 @@ module _ (N N′ : Nodes) (cells : ℕ) (clock : ℤ) (h i : ℕ) (once : Once N
       pub join-moved : Moved N N′ (suc h) i noWeight noWeight noNode (λ j. isNode j (childOf b))
       join-moved = regroup-as join (λ j. omega (arith, child-two a b j, child-one e j, ap (isNode j) child))
 
-      pub join-sound : SoundIn N cells clock (suc h) rest → TreeSound N cells clock h (childOf a) → TreeSound N cells clock h (childOf b) → Afresh N′ cells clock h e → TreeSound N′ cells clock (suc h) i
-      join-sound s t u p = regroup-sound join cells clock s (sound-two N cells clock h a b t u) (for-one (Afresh N′ cells clock h) p)
-
     -- share: the children of a and of b share their entries out anew
     module _ {a′ b′ : Entry} (has′ : SameWeights (N′ i) (a′ ∷ b′ ∷ rest)) (child-a : childOf a′ ≡ childOf a) (child-b : childOf b′ ≡ childOf b)
         (shared : SameWeights (N (childOf a) ++ N (childOf b)) (N′ (childOf a) ++ N′ (childOf b))) where
@@ -267,7 +256,3 @@ module _ (N N′ : Nodes) (cells : ℕ) (clock : ℤ) (h i : ℕ) (once : Once N
 
       pub share-moved : Moved N N′ (suc h) i noWeight noWeight noNode noNode
       share-moved = regroup-as share (λ j. omega (arith, child-two a b j, child-two a′ b′ j, ap (isNode j) child-a, ap (isNode j) child-b))
-
-      pub share-sound : SoundIn N cells clock (suc h) rest → TreeSound N cells clock h (childOf a) → TreeSound N cells clock h (childOf b) → Afresh N′ cells clock h a′ → Afresh N′ cells clock h b′
-          → TreeSound N′ cells clock (suc h) i
-      share-sound s t u p q = regroup-sound share cells clock s (sound-two N cells clock h a b t u) (for-two (Afresh N′ cells clock h) p q)

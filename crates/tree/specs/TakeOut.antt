@@ -13,7 +13,7 @@ use Rattle.tree.specs.Weights.{sum-cons, SameWeights, same-refl, same-sy
 use Rattle.tree.specs.Moved.{Moved, noWeight, noNode, fresh-none, moved-down}
 use Rattle.tree.specs.Regroup.{Afresh, refresh-moved, join-moved, share-moved}
 use Rattle.tree.specs.Leaf.{leaf-moved, leaf-sound, leaf-renews}
-use Rattle.tree.specs.Climb.{Mended, climb-has, climb-once, climb-refresh, climb-join, climb-into, climb-share}
+use Rattle.tree.specs.Climb.{Mended, climb-has, climb-once, climb-refresh, climb-into, climb-share}
 use Rattle.tree.specs.Used.{Free, free-node, freed-trans}
 
 -- the entry x is taken out below node i; the nodes that go out are free, and i has at most one entry fewer
@@ -78,16 +78,6 @@ module _ (cells : ℕ) (clock : ℤ) (N N₁ N₂ : Nodes) (h i : ℕ) {e x : En
 
     has₃ : SameWeights (N₁ i) (b ∷ e ∷ rest′)
     has₃ = same-trans has₂ (same-append (same-swap (e ∷ []) (b ∷ [])) (same-refl {l = rest′}))
-
-    -- it takes the entries of b's child, which is freed
-    pub out-join : {e′ : Entry} → SameWeights (N₂ i) (e′ ∷ rest′) → childOf e′ ≡ childOf e → SameWeights (N₁ (childOf e) ++ N₁ (childOf b)) (N₂ (childOf e)) → Free N₂ (childOf b)
-        → Afresh N₂ cells clock h e′ → TakeOut cells clock N N₂ (suc h) i x
-    out-join has′ child joined free afresh = record {
-      gone = λ j. p .gone j + isNode j (childOf b);
-      mended = climb-join cells clock i has once (fresh-none N (suc h) i) rest-sound (p .mended) beside other has′ child joined afresh;
-      are-free = freed-trans down (join-moved N₁ N₂ cells clock h i once₁ has₂ other has′ child joined) once (p .are-free) (free-node N₂ (childOf b) free);
-      one-fewer = omega (arith, same-length has, same-length beside, same-length has′);
-    }
 
     -- it is freed, and b's child takes its entries
     pub out-into : {b′ : Entry} → SameWeights (N₂ i) (b′ ∷ rest′) → childOf b′ ≡ childOf b → SameWeights (N₁ (childOf b) ++ N₁ (childOf e)) (N₂ (childOf b)) → Free N₂ (childOf e)

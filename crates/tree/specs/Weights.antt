@@ -117,9 +117,6 @@ module _ {A : Type 0} where
     same = λ φ. omega (arith, sum-append φ before (x ∷ after), sum-cons φ x after, sum-cons φ x (before ++ after), sum-append φ before after);
   }
 
-  pub same-last : (before : List A) (x : A) (after : List A) → SameWeights (before ++ x ∷ after) ((before ++ after) ++ x ∷ [])
-  same-last before x after = same-trans (same-first before x after) (same-swap (x ∷ []) (before ++ after))
-
   -- l has one more than m, which has one less: l has the weights of x ∷ m
   pub same-cons : (x : A) {l m : List A} → ((φ : A → ℕ) → sumOver φ l ≡ sumOver φ m + φ x) → SameWeights l (x ∷ m)
   same-cons x {l} {m} more = record { same = λ φ. omega (arith, more φ, sum-cons φ x m) }
