@@ -2,7 +2,7 @@
 -- and have the same clock and live cells after it. So every reply is a function of the model, the capacity, the length and what is given to the call.
 use mathlib.Core.Path.{_≡_, refl, sym, ap, ap₂, _∙_, subst}
 use mathlib.Core.Logic.{_⊎_, _↔_, inl, inr, ⊎-elim}
-use mathlib.Core.List.{List, [], _∷_, _++_}
+use mathlib.Core.List.{List, _∷_, _++_}
 use Prim.Native.Nat.{ℕ}
 use native.Mathlib.Decide.{ℕ-discrete}
 use native.Mathlib.Omega.{arith}
@@ -10,26 +10,24 @@ use lib.IntN.{ℤ}
 use lib.ListN.{length, drop}
 use lib.Signed.{_≤ℤ_, _<ℤ_}
 use Rattle.whole.specs.Order.{≤ℤ-or-<ℤ}
-use Rattle.words.specs.Words.{natOf}
 use Rattle.track.specs.Refusals.{First, first-fixed, first-as}
 use Rattle.track.specs.declared.cell.Cell.{Cell}
 use Rattle.track.specs.declared.query.Query.{Query}
-use Rattle.table.specs.Header.{capacityWord, clock, wordsFor}
-use Rattle.table.specs.Sound.{Live, Sound}
+use Rattle.table.specs.Header.{capacityWord, clock}
 use Rattle.query.specs.Queried.{answerNumber, answerHits, reasons, Queried}
 use Rattle.query.specs.QueriedLaws.{hits-fixed, refused-hits}
 use Rattle.query.specs.Hits.{Hits}
 use Rattle.query.specs.declared.answer.Answer.{Answer}
-use Rattle.leafing.specs.NextLive.{IsNext, NextOf, Steps}
+use Rattle.leafing.specs.NextLive.{NextOf}
 use Rattle.leafing.specs.NextLiveLaws.{steps-sound, steps-fixed}
 use Rattle.leafing.specs.declared.search.Next.{Next}
 use Rattle.leafing.specs.declared.search.Next.the-variants.{One, None}
 use Rattle.writing.specs.Written.{writtenNumber, writtenTotal}
 use Rattle.writing.specs.WrittenLaws.{written-same}
-use Rattle.reading.specs.Reads.{readReasons, IsRead, ReadsSheet}
+use Rattle.reading.specs.Reads.{readReasons, IsRead}
 use Rattle.tree.specs.Steps.{outcomeNumber}
 use Rattle.alike.specs.Alike.{Alike}
-use Rattle.alike.specs.AlikeLaws.{alike-sym, hits-too, query-number, report-alike, drop-alike}
+use Rattle.alike.specs.AlikeLaws.{hits-too, query-number, report-alike, drop-alike}
 use Rattle.promises.specs.Calls.{Call, Report, Drop, Window, Moving, Leaf, Write, Read, Reply, Number, Listed, Given, Bytes, Asked, Leafed, Wrote, WasRead, Happens, Run, no-call, one-call}
 use Rattle.promises.specs.Model.{Model, Together}
 use Rattle.promises.specs.Together.{call-size}

@@ -1,28 +1,25 @@
 -- The first promise over runs: table and model go together, from a fresh table and from an accepted sheet reading.
-use mathlib.Core.Path.{_≡_, refl, sym, ap, _∙_, subst}
-use mathlib.Core.Bool.{Bool, true, false}
-use mathlib.Core.Logic.{_↔_, _⊎_, inl, inr, ⊎-elim}
-use mathlib.Core.List.{List, [], _∷_, _++_, List·Memᴰ·head, List·Memᴰ·tail, List·Memᴰ·not-nil, List·Memᴰ·cases-cons}
+use mathlib.Core.Path.{_≡_, refl, ap}
+use mathlib.Core.Bool.{true}
+use mathlib.Core.Logic.{_⊎_, inl, inr, ⊎-elim}
+use mathlib.Core.List.{List, _∷_, List·Memᴰ·head, List·Memᴰ·tail, List·Memᴰ·not-nil, List·Memᴰ·cases-cons}
 use Prim.Native.Nat.{ℕ, zero, suc}
 use native.Mathlib.Omega.{arith}
-use lib.IntN.{ℤ, pos, ℤ-discrete}
+use lib.IntN.{ℤ, ℤ-discrete}
 use lib.ListN.{length}
 use lib.Signed.{_≤ℤ_, _<ℤ_}
 use Rattle.whole.specs.Lists.{_∈_, keep-in, in-keep}
 use Rattle.whole.specs.Order.{≤ℤ-trans, ≤ℤ-or-<ℤ}
 use Rattle.track.specs.Life.{LivesAt}
-use Rattle.track.specs.Refusals.{First, NoneHolds, none-holds, not-zero}
-use Rattle.track.specs.Report.{keptCell}
+use Rattle.track.specs.Refusals.{First, none-holds, not-zero}
 use Rattle.track.specs.declared.cell.Cell.{Cell}
 use Rattle.table.specs.Header.{capacityWord, clock}
-use Rattle.table.specs.Sound.{Sound, Live, held}
 use Rattle.table.specs.Fresh.{IsFresh}
-use Rattle.tree.specs.Steps.{outcomeNumber, Stays, Step, reportRefusals, LeftByReport, ReportSteps, dropRefusals, DropSteps}
+use Rattle.tree.specs.Steps.{outcomeNumber, Stays, Step, reportRefusals, ReportSteps, dropRefusals, DropSteps}
 use Rattle.sheet.specs.Sheet.{clockOf, cellsOf}
-use Rattle.reading.specs.Reads.{readReasons, IsRead, ReadsSheet}
-use Rattle.reading.specs.ReadsLaws.{read-live}
-use Rattle.promises.specs.Calls.{Call, Report, Drop, Window, Moving, Leaf, Write, Read, Reply, Number, Happens, Run, no-call, one-call}
-use Rattle.promises.specs.Model.{Model, LiveIn, Together, fresh, differs, others, after, told, afterAll}
+use Rattle.reading.specs.Reads.{IsRead}
+use Rattle.promises.specs.Calls.{Call, Report, Drop, Window, Moving, Leaf, Write, Read, Reply, Happens, Run, no-call, one-call}
+use Rattle.promises.specs.Model.{Model, Together, fresh, differs, others, after, told, afterAll}
 
 -- ---- cells with other identifiers
 module _ {P : Type 0} where

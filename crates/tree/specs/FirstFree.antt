@@ -1,14 +1,14 @@
 -- The first free node of a table, for a node that is split or a root that grows.
 use mathlib.Core.Path.{_≡_, subst, ap, _∙_, sym}
 use mathlib.Core.List.{List, []}
-use Prim.Native.Nat.{ℕ, zero, suc, _+_, _≤_, _<_}
+use Prim.Native.Nat.{ℕ, _+_, _≤_, _<_}
 use native.Mathlib.Nat.{not-suc-le-zero}
 use native.Mathlib.Omega.{arith}
 use native.Mathlib.Decide.{ℕ-discrete, decLt}
 use lib.IntN.{ℤ}
 use lib.ListN.{length, drop}
 use Rattle.words.specs.Layout.{nodeAt}
-use Rattle.node.specs.Entry.{Entry, entriesOf, countOf}
+use Rattle.node.specs.Entry.{entriesOf, countOf}
 use Rattle.node.specs.EntryLaws.{length-entriesOf, entries-end}
 use Rattle.table.specs.Header.{entriesAt}
 use Rattle.table.specs.Tree.{Nodes}

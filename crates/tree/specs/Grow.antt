@@ -1,22 +1,21 @@
 -- A full root: a new one is put above it, and it is parted.
 use mathlib.Core.Path.{_≡_, refl, sym, ap, _∙_, subst}
 use mathlib.Core.List.{List, [], _∷_, _++_}
-use Prim.Native.Nat.{ℕ, zero, suc, _+_, _^_, _≤_, _<_}
+use Prim.Native.Nat.{ℕ, suc, _+_, _^_, _≤_, _<_}
 use native.Mathlib.Nat.{not-suc-le-zero}
 use native.Mathlib.Numerals.{add-one}
 use native.Mathlib.Omega.{arith}
-use lib.IntN.{ℤ, pos}
-use lib.ListN.{length, getD, length-append}
-use lib.Dec.{lt→ltb, le→leb}
+use lib.IntN.{ℤ}
+use lib.ListN.{length}
+use lib.Dec.{le→leb}
 use Rattle.words.specs.Layout.{fullNode, header, InTable}
 use Rattle.words.specs.Words.{natOf}
 use Rattle.words.specs.WordLaws.{natOf-pos}
-use Rattle.track.specs.Numbers.{IsMinute}
 use Rattle.node.specs.Entry.{Entry, childOf}
 use Rattle.node.specs.ChangeAt.{Changed}
 use Rattle.node.specs.Made.{InRangeAt}
-use Rattle.table.specs.Header.{capacity, root, rootWord, height, heightWord, nodesFor, entriesAt}
-use Rattle.table.specs.Tree.{Nodes, isLeaf, leavesOf, nodesOf, TreeSound}
+use Rattle.table.specs.Header.{capacity, root, height, nodesFor, entriesAt}
+use Rattle.table.specs.Tree.{Nodes, isLeaf, leavesOf}
 use Rattle.tree.specs.Weights.{SameWeights, same-refl, same-trans, isNode}
 use Rattle.tree.specs.Moved.{noWeight, noNode, moved-same}
 use Rattle.tree.specs.Used.{Free, used, free-one}
@@ -26,10 +25,10 @@ use Rattle.tree.specs.Root.{grow-moved, grow-renews}
 use Rattle.tree.specs.Climb.{Mended}
 use Rattle.tree.specs.FirstFree.{FirstFree, found-free}
 use Rattle.tree.specs.EntryAfresh.{entryAbove, child-above, above-same, above-afresh, sound-in-range, is-node-at}
-use Rattle.tree.specs.Kept.{Ample, ample-in, ample-low, kept-capacity, changed-kept, changed-here, changed-others}
+use Rattle.tree.specs.Kept.{ample-in, ample-low, changed-kept, changed-here, changed-others}
 use Rattle.tree.specs.Headed.{Rooted, headed-same}
 use Rattle.tree.specs.Whole.{Whole, whole-fresh, whole-used, whole-two, whole-grow, grown-used, whole-mended}
-use Rattle.tree.specs.Part.{childAt, CanPartChild, Parted}
+use Rattle.tree.specs.Part.{CanPartChild, Parted}
 use Rattle.tree.specs.PartLaws.{many, parted-mended}
 use Rattle.tree.specs.Holding.{leaves, Holding, RenewsAll, Stands, stands-all, stands-then, stands-capacity, stands-ample, kept-stands, headed-stands}
 use Rattle.tree.specs.Tall.{tall}

@@ -1,5 +1,5 @@
 -- The header of a table changed, and what such a change leaves alone.
-use mathlib.Core.Path.{_≡_, refl, sym, ap, _∙_, fun-ext}
+use mathlib.Core.Path.{_≡_, ap, _∙_, fun-ext}
 use mathlib.Core.List.{List}
 use Prim.Native.Nat.{ℕ, _≤_, _<_}
 use native.Mathlib.Omega.{arith}
@@ -10,7 +10,7 @@ use Rattle.words.specs.Layout.{header, nodeAt}
 use Rattle.words.specs.LayoutLaws.{node-past-header}
 use Rattle.words.specs.Words.{wordAt}
 use Rattle.node.specs.Entry.{entriesOf}
-use Rattle.table.specs.Header.{capacityWord, clock, rootWord, heightWord, wordsFor, entriesAt}
+use Rattle.table.specs.Header.{capacityWord, clock, rootWord, heightWord, entriesAt}
 
 -- no node is changed, and no word behind the header
 pub record Headed (w v : List ℤ) : Type 0 where

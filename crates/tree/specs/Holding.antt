@@ -6,15 +6,14 @@ use native.Mathlib.Omega.{arith}
 use lib.IntN.{ℤ, pos}
 use lib.ListN.{length}
 use lib.Signed.{_≤ℤ_}
-use Rattle.words.specs.Layout.{header}
 use Rattle.words.specs.Words.{wordAt, natOf}
 use Rattle.track.specs.Numbers.{IsMinute}
-use Rattle.node.specs.Entry.{Entry, countWord, IsCount}
+use Rattle.node.specs.Entry.{Entry}
 use Rattle.table.specs.Header.{capacityWord, capacity, rootWord, root, heightWord, height, wordsFor, IsNode, entriesAt}
 use Rattle.table.specs.Tree.{leavesOf}
 use Rattle.tree.specs.Inner.{Renews}
 use Rattle.tree.specs.Kept.{Counted, Ample, Kept}
-use Rattle.tree.specs.Headed.{Headed, Rooted, Clocked}
+use Rattle.tree.specs.Headed.{Headed}
 use Rattle.tree.specs.Whole.{Whole}
 
 -- the entries of the leaves below the root

@@ -1,15 +1,13 @@
 -- The inner entries of a tree, and a test that all of them pass: it is kept by a change whose new entries pass it.
-use mathlib.Core.Path.{_≡_, refl}
+use mathlib.Core.Path.{_≡_}
 use mathlib.Core.Bool.{Bool, true}
-use mathlib.Core.Logic.{⊎-elim}
-use mathlib.Core.List.{List, [], _∷_, _++_, flatMap, List·Memᴰ·head, List·Memᴰ·eq-of-singleton, List·Memᴰ·append-cases, Memᴰ·append-left, Memᴰ·append-right}
-use Prim.Native.Nat.{ℕ, zero, suc, _<_}
+use mathlib.Core.List.{List}
+use Prim.Native.Nat.{ℕ, zero, suc}
 use lib.IntN.{ℤ}
 use Rattle.whole.specs.Lists.{_∈_, _⊆_}
-use Rattle.whole.specs.Times.{in-times, times-in}
 use Rattle.node.specs.Entry.{Entry, childOf, stampOf}
-use Rattle.table.specs.Tree.{Nodes, nodesOf}
-use Rattle.table.specs.Reach.{flat-in, in-flat, node-self, node-up}
+use Rattle.table.specs.Tree.{Nodes}
+use Rattle.table.specs.Reach.{flat-in, node-self, node-up}
 use Rattle.table.specs.Frame.{Agree}
 use Rattle.tree.specs.Weights.{SameWeights, same-sym, same-entries, AgreeIn, agree-child, under}
 

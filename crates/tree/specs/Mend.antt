@@ -6,8 +6,8 @@ use Prim.Native.Nat.{ℕ, suc, _+_, _-_, _≤_, _<_}
 use native.Mathlib.Omega.{arith}
 use lib.IntN.{ℤ, natAbs}
 use lib.ListN.{length, getD, set, length-set}
-use Rattle.whole.specs.Lists.{_∈_, _⊆_}
-use Rattle.words.specs.Layout.{fullNode, InTable}
+use Rattle.whole.specs.Lists.{_∈_}
+use Rattle.words.specs.Layout.{InTable}
 use Rattle.track.specs.Numbers.{IsMinute}
 use Rattle.track.specs.HullRange.{BoundsInRangeAt}
 use Rattle.node.specs.Entry.{Entry, boundsOf, childOf}
@@ -17,8 +17,8 @@ use Rattle.table.specs.Header.{capacity, nodesFor, entriesAt}
 use Rattle.table.specs.Tree.{Nodes, isLeaf, EntrySound, TreeSound}
 use Rattle.table.specs.ScanParts.{node-below}
 use Rattle.table.specs.Scan.{SoundIn}
-use Rattle.tree.specs.Weights.{sum-cons, sum-append, SameWeights, same-refl, same-sym, same-trans, same-as, same-append, same-swap, same-entries, visits, Once, is-self, visits-has, visits-child, visits-self, sound-part, sound-head}
-use Rattle.tree.specs.Places.{without, at-weights, set-weights, same-tail, TwoPlaces, two-places}
+use Rattle.tree.specs.Weights.{sum-cons, SameWeights, same-refl, same-sym, same-trans, same-as, same-append, same-swap, same-entries, visits, Once, visits-has, visits-child, visits-self, sound-part, sound-head}
+use Rattle.tree.specs.Places.{without, at-weights, set-weights, TwoPlaces, two-places}
 use Rattle.tree.specs.Regroup.{Afresh, child-other}
 use Rattle.tree.specs.Used.{Free, no-entries}
 use Rattle.tree.specs.EntryAfresh.{entryAbove, child-above, above-same, above-afresh, CanRefresh, sound-in-range}

@@ -1,7 +1,7 @@
 -- What the code of a report and of a drop knows on its ways: one law for each.
 use mathlib.Core.Path.{_≡_, refl, sym, ap, _∙_, subst}
 use mathlib.Core.Logic.{_⊎_, inl, inr, ⊎-elim}
-use mathlib.Core.List.{List, [], _∷_, _++_}
+use mathlib.Core.List.{List, [], _∷_}
 use Prim.Native.Nat.{ℕ, _≤_, _<_}
 use native.Mathlib.Omega.{arith}
 use lib.IntN.{ℤ, pos}
@@ -12,7 +12,7 @@ use Rattle.track.specs.Numbers.{IsMinute}
 use Rattle.track.specs.Life.{LivesAt}
 use Rattle.track.specs.Small.{CellInRange}
 use Rattle.track.specs.Refusals.{_when_, First, NoneZero, NoneHolds, none-holds, first-then, not-zero, number, refused-not-zero}
-use Rattle.track.specs.Report.{ReportInRange, reportReasons, keptCell, reportNumber, reportCell, Reports}
+use Rattle.track.specs.Report.{reportReasons, keptCell, reportNumber, reportCell, Reports}
 use Rattle.track.specs.Accepted.{kept-in-range}
 use Rattle.track.specs.declared.cell.Cell.{Cell}
 use Rattle.track.specs.declared.cell.Reported.{Reported}
@@ -28,7 +28,7 @@ use Rattle.tree.specs.Clear.{Cleared}
 use Rattle.tree.specs.Headed.{Clocked}
 use Rattle.tree.specs.Holding.{leaves, Holding, stands-capacity}
 use Rattle.tree.specs.PutCell.{HasRoom, PutCell}
-use Rattle.tree.specs.Steps.{Stays, IsThere, NoRoom, Step, LeftByReport, ReportSteps, DropInRange, DropSteps}
+use Rattle.tree.specs.Steps.{Stays, NoRoom, Step, ReportSteps, DropInRange, DropSteps}
 use Rattle.tree.specs.Staying.{CanCount}
 use Rattle.tree.specs.StayingLaws.{manyStay, no-more-room, more-room, is-there, not-there}
 use Rattle.tree.specs.Stepping.{sound-ample, sound-holding, left-many, drop-step, report-step}

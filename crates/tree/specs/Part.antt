@@ -1,12 +1,11 @@
 -- The full child of a node parted: some of its entries go to a free node, and both are entered in the node.
-use mathlib.Core.Path.{_≡_, refl, sym, ap, _∙_, subst}
+use mathlib.Core.Path.{_≡_, sym, ap, _∙_, subst}
 use mathlib.Core.Bool.{Bool}
 use mathlib.Core.List.{List, [], _∷_, _++_, append-nil, Memᴰ·append-left, Memᴰ·append-right}
 use Prim.Native.Nat.{ℕ, suc, _+_, _^_, _≤_, _<_}
 use native.Mathlib.Omega.{arith}
 use lib.IntN.{ℤ}
-use lib.ListN.{length, getD, set, length-set, length-append}
-use Rattle.whole.specs.Lists.{_∈_, at-in}
+use lib.ListN.{length, getD, set, length-set}
 use Rattle.words.specs.Layout.{fullNode, InTable}
 use Rattle.track.specs.Numbers.{IsMinute}
 use Rattle.node.specs.Entry.{Entry, childOf}
@@ -22,7 +21,7 @@ use Rattle.tree.specs.Regroup.{child-other}
 use Rattle.tree.specs.Used.{Free}
 use Rattle.tree.specs.FirstFree.{FirstFree, found-free}
 use Rattle.tree.specs.EntryAfresh.{entryAbove, above-same, CanRefresh, sound-in-range}
-use Rattle.tree.specs.Kept.{Ample, ample-in, ample-low, Kept, kept-then, kept-capacity, kept-ample, changed-kept, changed-here, changed-others}
+use Rattle.tree.specs.Kept.{Ample, ample-in, ample-low, Kept, kept-then, changed-kept, changed-here, changed-others}
 use Rattle.tree.specs.Shift.{Shifted, shifted-left}
 use Rattle.tree.specs.Marked.{CanPart}
 

@@ -1,7 +1,7 @@
 -- A cell put into the tree of a table.
 use mathlib.Core.Path.{_≡_, ap}
 use mathlib.Core.List.{List, [], _∷_}
-use Prim.Native.Nat.{ℕ, _≤_, _<_}
+use Prim.Native.Nat.{_<_}
 use native.Mathlib.Nat.{not-suc-le-zero}
 use native.Mathlib.Omega.{arith}
 use lib.IntN.{ℤ}
@@ -16,7 +16,7 @@ use Rattle.tree.specs.Whole.{whole-mended}
 use Rattle.tree.specs.Enter.{enter-root}
 use Rattle.tree.specs.Way.{CanPut}
 use Rattle.tree.specs.Puts.{Puts}
-use Rattle.tree.specs.Holding.{leaves, Holding, RenewsAll, Stands, stands-then, stands-all, stands-capacity, stands-ample, kept-stands}
+use Rattle.tree.specs.Holding.{leaves, Holding, RenewsAll, Stands, stands-then, stands-capacity, stands-ample, kept-stands}
 use Rattle.tree.specs.Grow.{Grown}
 
 -- the table has room for another cell

@@ -1,16 +1,16 @@
 -- An entry put in below a node: into a leaf, and below a child, whose entry is worked out afresh.
-use mathlib.Core.Path.{_≡_, sym, ap, _∙_}
+use mathlib.Core.Path.{_≡_, sym, _∙_}
 use mathlib.Core.List.{List, [], _∷_, _++_}
 use Prim.Native.Nat.{ℕ, zero, suc, _≤_, _<_}
 use native.Mathlib.Omega.{arith}
 use lib.IntN.{ℤ}
 use lib.ListN.{length, getD, set}
 use Rattle.track.specs.Small.{CellInRange}
-use Rattle.node.specs.Entry.{Entry, cellOf, childOf}
+use Rattle.node.specs.Entry.{Entry, cellOf}
 use Rattle.node.specs.ChangeAt.{Changed}
 use Rattle.node.specs.Made.{InRangeAt}
 use Rattle.table.specs.Header.{capacity, nodesFor, entriesAt}
-use Rattle.table.specs.Tree.{Nodes, isLeaf, TreeSound}
+use Rattle.table.specs.Tree.{isLeaf}
 use Rattle.tree.specs.Weights.{SameWeights, same-as, same-trans, same-length, sound-has, sound-head}
 use Rattle.tree.specs.Places.{without, at-weights, set-weights, append-weights}
 use Rattle.tree.specs.Moved.{down-node}
@@ -18,7 +18,7 @@ use Rattle.tree.specs.Used.{free-unmet, sound-used}
 use Rattle.tree.specs.EntryAfresh.{entryAbove, child-above, above-same, above-afresh, CanRefresh, sound-in-range}
 use Rattle.tree.specs.Kept.{Kept, ample-in, ample-low, kept-then, kept-capacity, kept-ample, changed-kept, changed-here, changed-others}
 use Rattle.tree.specs.PutIn.{PutIn, put-leaf, put-below}
-use Rattle.tree.specs.Enter.{Enter, enter-child}
+use Rattle.tree.specs.Enter.{enter-child}
 use Rattle.tree.specs.Part.{childAt, child-low, child-apart}
 use Rattle.tree.specs.Way.{CanPut, Way}
 

@@ -18,7 +18,7 @@ use Rattle.table.specs.Header.{IsNode}
 use Rattle.table.specs.Tree.{Nodes, isLeaf, NotBefore, EntrySound, TreeSound}
 use Rattle.table.specs.Reach.{in-flat}
 use Rattle.table.specs.Scan.{SoundIn, sound-in, in-sound}
-use Rattle.tree.specs.Weights.{sumOver, sum-none, sum-append, SameWeights, same-refl, same-as, same-sym, same-trans, same-append, same-entries, weight, visits, visitsIn, Once, isNode, is-self, is-other, not-other, times-cons, times-none, under, AgreeIn, weight-has, visits-has, visits-child, visits-self, weight-same, visits-same, weight-append, visits-append, weight-under, visits-under, leaves-in-frame, nodes-in-frame, sound-in-frame, sound-part, sound-append}
+use Rattle.tree.specs.Weights.{sumOver, sum-none, sum-append, SameWeights, same-refl, same-as, same-sym, same-trans, same-append, same-entries, weight, visits, visitsIn, Once, isNode, is-self, is-other, not-other, times-cons, times-none, under, AgreeIn, weight-has, visits-has, visits-child, visits-self, weight-same, visits-same, weight-append, visits-append, weight-under, visits-under, leaves-in-frame, nodes-in-frame, sound-in-frame, sound-part}
 use Rattle.tree.specs.Inner.{AllInner, InnerIn, Renews, in-inner, inner-part, inner-has, inner-under, inner-in-frame}
 use Rattle.tree.specs.Moved.{Moved, noWeight, noNode, moved-as}
 

@@ -1,7 +1,7 @@
 -- The root after a cell was taken out: an inner root with one entry gives way to its child.
-use mathlib.Core.Path.{_≡_, refl, sym, ap, _∙_}
+use mathlib.Core.Path.{_≡_, refl, ap, _∙_}
 use mathlib.Core.List.{List, [], _∷_}
-use Prim.Native.Nat.{ℕ, zero, suc, _-_, _^_, _≤_, _<_}
+use Prim.Native.Nat.{ℕ, suc, _-_, _^_, _≤_, _<_}
 use native.Mathlib.Omega.{arith}
 use lib.IntN.{ℤ, pos}
 use lib.ListN.{length, getD, take}
@@ -13,8 +13,7 @@ use Rattle.words.specs.WordLaws.{natOf-pos}
 use Rattle.track.specs.Numbers.{IsMinute}
 use Rattle.node.specs.Entry.{Entry, childOf}
 use Rattle.node.specs.ChangeAt.{Changed}
-use Rattle.table.specs.Header.{capacity, root, rootWord, height, heightWord, nodesFor, IsNode, entriesAt}
-use Rattle.table.specs.Tree.{leavesOf}
+use Rattle.table.specs.Header.{capacity, root, rootWord, height, heightWord, IsNode, entriesAt}
 use Rattle.tree.specs.Weights.{SameWeights, same-refl, same-as, sound-has, sound-head}
 use Rattle.tree.specs.Moved.{moved-same}
 use Rattle.tree.specs.Regroup.{child-other}

@@ -1,8 +1,8 @@
 -- A cell that goes, taken out below a node: the first one from a place on.
-use mathlib.Core.Path.{_≡_, refl, sym, ap, _∙_, subst}
+use mathlib.Core.Path.{_≡_, refl, sym, subst}
 use mathlib.Core.Bool.{Bool, true, false}
 use mathlib.Core.Logic.{_⊎_, inl, inr, ⊎-elim}
-use mathlib.Core.List.{List, [], _∷_, _++_, flatMap, List·Memᴰ·head, List·Memᴰ·not-nil, List·Memᴰ·cases-cons, List·Memᴰ·append-cases, List·Memᴰ·eq-of-singleton, Memᴰ·append-left}
+use mathlib.Core.List.{List, [], _∷_, flatMap, List·Memᴰ·head, List·Memᴰ·not-nil, List·Memᴰ·cases-cons, List·Memᴰ·append-cases, List·Memᴰ·eq-of-singleton, Memᴰ·append-left}
 use Prim.Native.Nat.{ℕ, zero, suc, _+_, _≤_, _<_}
 use native.Mathlib.Omega.{arith}
 use lib.IntN.{ℤ}
@@ -13,9 +13,8 @@ use Rattle.node.specs.Entry.{Entry, cellOf, childOf}
 use Rattle.node.specs.ChangeAt.{Changed}
 use Rattle.table.specs.Header.{capacity, nodesFor, entriesAt}
 use Rattle.table.specs.Tree.{Nodes, leavesOf, TreeSound}
-use Rattle.table.specs.ScanParts.{node-below}
 use Rattle.table.specs.Scan.{leavesIn, leaves-in, SoundIn}
-use Rattle.tree.specs.Weights.{SameWeights, same-length, same-entries, same-sym, Once, once-child, sound-has, sound-head, sound-tail}
+use Rattle.tree.specs.Weights.{SameWeights, Once, once-child, sound-has, sound-head, sound-tail}
 use Rattle.tree.specs.Places.{without, at-weights}
 use Rattle.tree.specs.Moved.{fresh-none, down-node}
 use Rattle.tree.specs.Climb.{climb-once, climb-rest}

@@ -1,7 +1,7 @@
 -- A sound node with levels beneath it has a node on each of them, so a table's height is small.
 use mathlib.Core.List.{List, [], _∷_, flatMap, List·Memᴰ·head}
 use mathlib.Core.Path.{refl}
-use Prim.Native.Nat.{ℕ, zero, suc, _≤_, _<_}
+use Prim.Native.Nat.{ℕ, zero, suc, _<_}
 use native.Mathlib.Nat.{not-suc-le-zero}
 use native.Mathlib.Omega.{arith}
 use lib.IntN.{ℤ}

@@ -1,6 +1,6 @@
 use mir.Syntax.{w32}
 use mir.Val.{toZ, ofZ}
-use mathlib.Core.Path.{_≡_, ap, _∙_}
+use mathlib.Core.Path.{ap, _∙_}
 use Rattle.whole.specs.Within.{back}
 use Rattle.node.specs.Made.{innerEntry}
 use Rattle.table.specs.Header.{entriesAt}

@@ -7,7 +7,7 @@ use Rattle.table.specs.Header.{root, height, entriesAt}
 use Rattle.tree.specs.AtNode.{kept-at}
 use Rattle.tree.specs.Headed.{Rooted}
 use Rattle.tree.specs.Part.{childAt}
-use Rattle.tree.specs.Settle.{Settles, settled-none, root-in-table, long, child-low, settled-way}
+use Rattle.tree.specs.Settle.{settled-none, root-in-table, long, child-low, settled-way}
 use borrow.Author.Needs.{needs}
 use Rattle.tree.proofs.clear.settle_root.Statement.{statement}
 use Rattle.tree.proofs.clear.settle_root.Tie as tie

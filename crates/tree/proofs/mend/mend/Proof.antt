@@ -1,11 +1,10 @@
 use mathlib.Core.Path.{_≡_}
 use Prim.Native.Nat.{_<_}
 use native.Mathlib.Omega.{arith}
-use lib.ListN.{length, set}
+use lib.ListN.{length}
 use borrow.Author.Needs.{needs}
 use Rattle.whole.specs.Within.{back}
-use Rattle.table.specs.Header.{capacity, entriesAt}
-use Rattle.table.specs.Tree.{isLeaf}
+use Rattle.table.specs.Header.{entriesAt}
 use Rattle.table.specs.ScanParts.{leaf-test}
 use Rattle.tree.specs.Kept.{ample-in}
 use Rattle.tree.specs.Part.{childAt}

@@ -1,8 +1,6 @@
 use mathlib.Core.Path.{_≡_, subst}
-use mathlib.Core.Bool.{true, false}
 use Prim.Native.Nat.{_+_, _-_, _≤_}
 use native.Mathlib.Omega.{arith}
-use lib.ListN.{length, getD}
 use borrow.Author.Needs.{needs}
 use Rattle.words.specs.Layout.{fullNode}
 use Rattle.tree.specs.Marked.{GoneFrom, gone-none, can-go, gone-go, gone-stay}

@@ -9,7 +9,7 @@ use borrow.Fn.Kinds.{In}
 use borrow.Fn.PlainCycle.{Measures, is, falls, and}
 use Rattle.whole.specs.Tells.{Tells, passed, failed}
 use Rattle.whole.specs.Within.{back}
-use Rattle.words.specs.Layout.{fullNode, nodeAt, entryAt}
+use Rattle.words.specs.Layout.{fullNode, entryAt}
 use Rattle.node.specs.Entry.{cellOf}
 use Rattle.table.specs.Header.{entriesAt}
 use Rattle.tree.specs.AtNode.{length-at, at-most, entry-here, removed-at}
