@@ -1,12 +1,14 @@
 //! How many nodes a query opens over a day's reports: what the choices of child and of parting gain.
+//! And how long calls take, beside a judge of soundness and a plain scan in the same run.
 //! Nothing is compared here. Every library gets the same calls, whatever tree it makes of them.
 
 use super::layout::{words_for, HEIGHT, LARGEST};
 use super::library::Library;
 use super::model::Change;
-use super::reading;
+use super::{reading, scan};
 use crate::question::{Kind, Query, Rectangle, Report, MINUTE};
 use crate::random::Random;
+use std::hint::black_box;
 use std::time::{Duration, Instant};
 
 const DAYS: u64 = 3;
@@ -25,6 +27,9 @@ const UNLIKE: i32 = 12;
 const SWEEP: i32 = 5;
 
 const QUERIES_A_MINUTE: u32 = 20;
+
+/// One query in so many is put to the judge and the scan as well.
+const BESIDE: u32 = 10;
 
 pub fn print(library: &Library) {
     let mut seen = Seen::default();
@@ -54,6 +59,11 @@ struct Asked {
     hits: i64,
     opened: i64,
     time: Duration,
+    beside: u32,
+    /// The library's test of soundness by itself.
+    testing: Duration,
+    /// The judge and the scan.
+    scanning: Duration,
 }
 
 impl Asked {
@@ -65,6 +75,11 @@ impl Asked {
             mean(self.hits),
             mean(self.opened),
             self.time.as_secs_f64() * 1e6 / f64::from(self.queries)
+        );
+        println!(
+            "  beside them: the test of soundness alone {:.1} microseconds, a judge and a plain scan {:.1}",
+            self.testing.as_secs_f64() * 1e6 / f64::from(self.beside),
+            self.scanning.as_secs_f64() * 1e6 / f64::from(self.beside)
         );
     }
 }
@@ -250,6 +265,15 @@ impl<'a> Day<'a> {
         asked.queries += 1;
         asked.hits += i64::from(answer.hits);
         asked.opened += i64::from(answer.opened);
+        if asked.queries % BESIDE == 0 {
+            let from = Instant::now();
+            black_box((self.library.open)(&mut self.words));
+            asked.testing += from.elapsed();
+            let from = Instant::now();
+            black_box(scan::truth(&self.words, &scan::Asked { kind, query }));
+            asked.scanning += from.elapsed();
+            asked.beside += 1;
+        }
         seen.refused += u32::from(answer.number != 0);
     }
 }
