@@ -1,6 +1,6 @@
 -- Three lines of bytes held to the definitions: -0 and 007 are numbers, and `drop 9 -31` is a form.
 use mathlib.Core.Path.{refl}
-use mathlib.Core.List.{List, [], _∷_}
+use mathlib.Core.List.{[], _∷_}
 use native.Mathlib.Omega.{arith}
 use lib.IntN.{pos, negsuc}
 use Rattle.lines.specs.Spells.{no-digits, and-digit, Spells, plain, minus}

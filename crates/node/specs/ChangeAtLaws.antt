@@ -1,14 +1,14 @@
 -- Each change of a node's entries, in its table.
-use mathlib.Core.Path.{_≡_, sym, _∙_}
+use mathlib.Core.Path.{_≡_, _∙_}
 use mathlib.Core.List.{List, [], _∷_, _++_}
 use Prim.Native.Nat.{ℕ, _+_, _≤_, _<_}
 use native.Mathlib.Omega.{arith}
 use lib.IntN.{ℤ, pos}
 use lib.ListN.{length, take, drop, set}
 use Rattle.words.specs.PartLaws.{getD-put-above}
-use Rattle.words.specs.Layout.{header, nodeWords, entryWords, fullNode, nodeStart, InTable, nodeAt, setNode, setEntry}
+use Rattle.words.specs.Layout.{nodeWords, entryWords, fullNode, nodeStart, InTable, nodeAt, setNode, setEntry}
 use Rattle.words.specs.LayoutLaws.{length-nodeAt, length-setNode, length-setEntry, node-same, node-other, header-same}
-use Rattle.words.specs.Words.{withCount, wordAt}
+use Rattle.words.specs.Words.{withCount}
 use Rattle.node.specs.Entry.{Entry, countWord, IsCount, countOf, entriesOf}
 use Rattle.node.specs.EntryLaws.{count-fits}
 use Rattle.node.specs.Change.{appended, removed}

@@ -1,7 +1,7 @@
 -- Laws of a node's words changed: what its entries and its count are then.
-use mathlib.Core.Path.{_≡_, refl, sym, ap, _∙_}
+use mathlib.Core.Path.{_≡_, sym, ap, _∙_}
 use mathlib.Core.List.{List, [], _∷_, _++_}
-use Prim.Native.Nat.{ℕ, suc, _+_, _-_, _*_, _<_, _≤_}
+use Prim.Native.Nat.{ℕ, _+_, _-_, _*_, _<_, _≤_}
 use native.Mathlib.Decide.{decLt, ℕ-discrete}
 use native.Mathlib.Numerals.{add-one}
 use native.Mathlib.Omega.{arith}
@@ -11,7 +11,7 @@ use lib.Signed.{leZ-yes}
 use lib.ListN.{length, getD, take, drop, set, length-append, length-set, length-take, length-drop, List·getD-append}
 use lib.Seq.{ext-getD, getD-take, getD-drop, getD-append-add, getD-set-same, getD-set-other}
 use Rattle.words.specs.Parts.{part, put}
-use Rattle.words.specs.PartLaws.{length-part, length-put, getD-put-below, part-part, part-put-below, part-of-put, part-set-below}
+use Rattle.words.specs.PartLaws.{length-part, length-put, part-part, part-put-below, part-of-put, part-set-below}
 use Rattle.words.specs.Layout.{nodeWords, entryWords, fullNode, entryOffset, entryAt, setEntry}
 use Rattle.words.specs.LayoutLaws.{length-setEntry, entry-same, entry-other, own-same}
 use Rattle.words.specs.Words.{natOf, withCount}

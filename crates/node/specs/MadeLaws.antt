@@ -1,11 +1,11 @@
 -- Laws of the entries that are put in: what they are read as, and that what a node comes to at a minute is in range.
 use mathlib.Core.Path.{_≡_, refl, sym, subst}
 use mathlib.Core.Bool.{Bool, true, false}
-use mathlib.Core.List.{List, [], _∷_, _++_, map, Memᴰ·of-map}
+use mathlib.Core.List.{List, [], _∷_, Memᴰ·of-map}
 use Prim.Native.Nat.{ℕ, _+_, _*_, _≤_}
 use native.Mathlib.Omega.{arith}
 use lib.IntN.{ℤ, pos, natAbs, _+ℤ_, _*ℤ_}
-use lib.ListN.{length, getD}
+use lib.ListN.{length}
 use lib.Signed.{_≤ℤ_}
 use Rattle.whole.specs.Lists.{_∈_}
 use Rattle.whole.specs.Within.{Within, abs-positive, add-in, mul-in, lit-in}
@@ -13,13 +13,12 @@ use Rattle.words.specs.Layout.{entryWords}
 use Rattle.words.specs.Words.{rowAt}
 use Rattle.words.specs.WordLaws.{rowAt-whole}
 use Rattle.track.specs.Numbers.{IsMinute, minute-in}
-use Rattle.track.specs.Meets.{Row, cellBounds}
 use Rattle.track.specs.Small.{RowInRange, CellInRange}
 use Rattle.track.specs.HullLaws.{hull-tight}
 use Rattle.track.specs.HullRange.{IsEdgeAt, RowInRangeAt, BoundsInRangeAt, row-at-zero, tight-in-range, cell-in-range}
 use Rattle.track.specs.declared.cell.Cell.{Cell}
 use Rattle.node.specs.Entry.{Entry, cellOf, childWord, stampOf, boundsOf, untilOf}
-use Rattle.node.specs.WorkedOut.{rowOf, hullOn, latestOf, WorkedOut}
+use Rattle.node.specs.WorkedOut.{rowOf, hullOn, WorkedOut}
 use Rattle.node.specs.Made.{workedOut, InRangeAt, innerEntry, leafEntry}
 use Rattle.node.specs.declared.made.Worked.{Worked}
 

@@ -1,5 +1,5 @@
 -- The counts of an answer are small: no more hits than a table holds cells, no more opened nodes than it has.
-use mathlib.Core.Path.{_≡_, refl, ap, _∙_, subst}
+use mathlib.Core.Path.{_≡_, refl, subst}
 use mathlib.Core.Logic.{inl, inr}
 use mathlib.Core.List.{List, map, Memᴰ·map}
 use Prim.Native.Nat.{ℕ, _≤_}

@@ -1,6 +1,6 @@
 -- The header of a table: capacity, clock, the root's node, and the height, 0 where the root is a leaf.
 use mathlib.Core.List.{List}
-use Prim.Native.Nat.{ℕ, _+_, _*_, _/_}
+use Prim.Native.Nat.{ℕ, _+_, _/_}
 use lib.IntN.{ℤ, pos}
 use lib.Signed.{_≤ℤ_, _<ℤ_}
 use Rattle.words.specs.Layout.{nodeStart, nodeAt}

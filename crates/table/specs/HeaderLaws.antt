@@ -1,16 +1,14 @@
 -- Laws of the header's tests.
 use mathlib.Core.Path.{_≡_}
 use Prim.Native.Nat.{ℕ, _≤_, _<_}
-use native.Mathlib.Omega.{arith}
-use lib.Dec.{leb, leb→le, le→leb, ltb, ltb→lt}
+use lib.Dec.{leb, leb→le}
 use lib.IntN.{ℤ, pos}
 use lib.Signed.{_≤ℤ_, _<ℤ_, leZ-yes, clashℤ}
-use Rattle.whole.specs.Difference.{each, difs}
 use Rattle.whole.specs.Order.{≤ℤ-trans}
 use Rattle.whole.specs.Tells.{Tells}
 use Rattle.words.specs.Words.{natOf}
 use Rattle.words.specs.WordLaws.{pos-natOf}
-use Rattle.table.specs.Header.{IsCapacity, greatestCapacity, IsNode, nodesFor}
+use Rattle.table.specs.Header.{IsCapacity, greatestCapacity}
 
 pub no-capacity : {n : ℤ} → n <ℤ pos 1 → IsCapacity n → ⊥
 no-capacity h c = clashℤ h (c .from)

@@ -1,7 +1,7 @@
 -- The soundness test's pass over the tree: what passing some entries means, and one law for each way through the code.
 -- `es` are entries of a node that has h levels beneath it; `marks` tells for each node whether it was met; m identifiers are gathered.
 use mathlib.Core.Path.{_≡_, refl, sym, ap, _∙_}
-use mathlib.Core.Logic.{_⊎_, inl, inr, ⊎-elim}
+use mathlib.Core.Logic.{_⊎_, ⊎-elim}
 use mathlib.Core.Bool.{Bool, true, false, not}
 use mathlib.Core.List.{List, [], _∷_, _++_, map, map-append, flatMap, List·Memᴰ·head, List·Memᴰ·tail, List·Memᴰ·cases-cons, List·Memᴰ·not-nil, List·Memᴰ·append-cases, Memᴰ·append-left, Memᴰ·append-right, append-assoc, append-nil}
 use Prim.Native.Nat.{ℕ, zero, suc, _+_, _-_, _≤_, _<_}
@@ -20,7 +20,6 @@ use Rattle.words.specs.Layout.{nodeAt}
 use Rattle.words.specs.Words.{natOf}
 use Rattle.track.specs.Small.{CellInRange}
 use Rattle.node.specs.Entry.{Entry, cellOf, childOf, countWord, IsCount}
-use Rattle.table.specs.Header.{nodesFor}
 use Rattle.table.specs.Tree.{Nodes, leavesOf, nodesOf, EntrySound, TreeSound}
 use Rattle.table.specs.declared.scan.Scan.{Scan}
 use Rattle.table.specs.declared.scan.Scan.the-variants.{Passed, Bad}

@@ -2,7 +2,7 @@
 use mathlib.Core.Path.{_≡_, refl, sym, ap, ap₂, _∙_, subst}
 use mathlib.Core.Logic.{_⊎_, inl, inr, ⊎-elim}
 use mathlib.Core.Bool.{Bool, true, false}
-use mathlib.Core.List.{List, [], _∷_, _++_, map, flatMap, List·Memᴰ·head, List·Memᴰ·tail, List·Memᴰ·cases-cons, List·Memᴰ·append-cases, List·Memᴰ·not-nil, Memᴰ·map, Memᴰ·of-map}
+use mathlib.Core.List.{List, [], _∷_, map, List·Memᴰ·head, List·Memᴰ·tail, List·Memᴰ·cases-cons, List·Memᴰ·not-nil, Memᴰ·map, Memᴰ·of-map}
 use Prim.Native.Nat.{ℕ, zero, suc, _+_, _≤_, _<_}
 use native.Mathlib.Decide.{ℕ-discrete}
 use native.Mathlib.Nat.{not-suc-le-zero}
@@ -15,8 +15,7 @@ use lib.Signed.{_≤ℤ_, leZ-yes}
 use Rattle.whole.specs.Lists.{_∈_, NoRepeat, no-repeat-none, no-repeat-cons, no-repeat-head, no-repeat-tail}
 use Rattle.whole.specs.Order.{≤ℤ-trans}
 use Rattle.whole.specs.Times.{times, once-if, times-in, in-times, no-repeat-times, times-no-repeat}
-use Rattle.words.specs.Layout.{nodeAt, fullNode}
-use Rattle.words.specs.Words.{natOf}
+use Rattle.words.specs.Layout.{nodeAt}
 use Rattle.words.specs.WordLaws.{pos-natOf}
 use Rattle.track.specs.Life.{identifier}
 use Rattle.track.specs.Numbers.{IsMinute}

@@ -1,11 +1,11 @@
 -- Laws of what is told of a report and a query: one for each way through the code, and how the reasons of the two join.
 use mathlib.Core.Path.{_≡_, refl, sym, ap₂, _∙_}
-use mathlib.Core.Logic.{_⊎_, inl, inr}
-use mathlib.Core.List.{List, [], _∷_}
+use mathlib.Core.Logic.{inl, inr}
+use mathlib.Core.List.{[], _∷_}
 use Prim.Native.Nat.{ℕ, zero, suc}
 use lib.IntN.{ℤ, pos}
-use lib.Signed.{_<ℤ_, clashℤ}
-use Rattle.track.specs.Refusals.{number, Reason, _when_, First, first-then, firstOf, none-first, not-zero, refused-not-zero, Gives}
+use lib.Signed.{clashℤ}
+use Rattle.track.specs.Refusals.{number, _when_, First, first-then, firstOf, none-first, not-zero, refused-not-zero, Gives}
 use Rattle.track.specs.Report.{reportReasons, keptCell, reportNumber, Reports}
 use Rattle.track.specs.Query.{queryReasons, askedNumber, Asks}
 use Rattle.track.specs.Meets.{CellMeets}

@@ -2,7 +2,6 @@
 -- `cutTo` does to numbers of any size what the code does; `cut-law` says what it means.
 use mathlib.Core.Path.{_≡_, refl}
 use mathlib.Core.Bool.{Bool, true, false, cond}
-use Prim.Native.Nat.{ℕ, _^_}
 use native.Mathlib.Nat.{mul-le-mul-right}
 use native.Mathlib.Omega.{arith}
 use lib.IntN.{ℤ, pos, negℤ, _+ℤ_, _-ℤ_, _*ℤ_}
@@ -10,7 +9,6 @@ use lib.Signed.{_≤ℤ_, _<ℤ_, ltZ, leZ, leZ-yes, ≤ℤ-refl, clashℤ}
 use Rattle.whole.specs.Difference.{each, nat, all2, all3, all4, difs, cross}
 use Rattle.whole.specs.Order.{ltZ-true, ltZ-false, leZ-true, leZ-false, <ℤ→≤ℤ, ≤ℤ-trans, ≤ℤ-antisym, of-gap, cancel, *ℤ-one}
 use Rattle.whole.specs.Tells.{Tells, tells-false}
-use Rattle.whole.specs.Within.{Within, neg-in, lit-in}
 use Rattle.track.specs.Meets.{Instant, InLife}
 use Rattle.track.specs.declared.interval.Interval.{Interval}
 

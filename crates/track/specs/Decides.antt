@@ -1,6 +1,6 @@
 -- The meeting test on numbers of any size, and the law that it tells `Meets`, proved once for any axis.
 use mathlib.Core.Path.{_≡_, ap, _∙_}
-use mathlib.Core.Bool.{Bool, true, false, cond}
+use mathlib.Core.Bool.{Bool, true, false}
 use mathlib.Core.List.{[]}
 use lib.IntN.{ℤ, pos, negℤ, _+ℤ_, _-ℤ_, _*ℤ_}
 use lib.Signed.{_≤ℤ_, ltZ, leZ-yes}
@@ -9,8 +9,8 @@ use native.Mathlib.Omega.{arith}
 use Rattle.whole.specs.Difference.{all2, all4, difs}
 use Rattle.whole.specs.Order.{of-gap, gap-of, ring, *ℤ-one}
 use Rattle.whole.specs.Tells.{Tells, tells-as, decided}
-use Rattle.track.specs.Meets.{Instant, InQuery, Row, low, high, lowVelocity, highVelocity, span, edgeAt, movedAt, Touches, Bounds, Meets}
-use Rattle.track.specs.Cut.{Inside, Proper, Above, Cuts, cutTo, cut-law, livesIn, lives-law, SomeIn}
+use Rattle.track.specs.Meets.{Instant, Row, low, high, lowVelocity, highVelocity, span, edgeAt, movedAt, Touches, Bounds, Meets}
+use Rattle.track.specs.Cut.{Inside, Proper, Above, cutTo, cut-law, livesIn, lives-law}
 use Rattle.track.specs.declared.interval.Interval.{Interval}
 use Rattle.track.specs.declared.interval.Line.{Line}
 use Rattle.track.specs.declared.query.Edges.{Edges}

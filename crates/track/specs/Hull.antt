@@ -1,7 +1,7 @@
 -- The conservative rule: the row that is worked out from others at a minute, the stamp, holds them at every instant from then on.
 use mathlib.Core.Bool.{cond}
 use mathlib.Core.List.{List, [], _∷_, map}
-use lib.IntN.{ℤ, pos, _+ℤ_, _-ℤ_, _*ℤ_}
+use lib.IntN.{ℤ, _+ℤ_, _-ℤ_, _*ℤ_}
 use lib.Signed.{ltZ}
 use Rattle.track.specs.Meets.{Row, low, high, lowVelocity, highVelocity}
 

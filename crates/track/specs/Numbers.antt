@@ -1,9 +1,8 @@
 -- The numbers of the trade: positions in units of 10 m, velocities in units a minute, minutes from 0 to 1,440.
-use Prim.Native.Nat.{ℕ}
 use lib.IntN.{ℤ, pos, _-ℤ_, _*ℤ_}
 use lib.Signed.{_≤ℤ_, leZ-yes}
 use Rattle.whole.specs.Order.{≤ℤ-trans}
-use Rattle.whole.specs.Within.{Within, widen, mul-in, sub-in, from-zero}
+use Rattle.whole.specs.Within.{Within, mul-in, sub-in, from-zero}
 
 pub record IsMinute (m : ℤ) : Type 0 where
   pub from : pos 0 ≤ℤ m

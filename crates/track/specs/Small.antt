@@ -1,19 +1,19 @@
 -- The ranges in which the meeting test's products fit, and that its steps keep them.
-use mathlib.Core.List.{List, [], _∷_}
+use mathlib.Core.List.{[]}
 use mathlib.Core.Bool.{Bool, true, false, cond}
 use mathlib.Core.Path.{_≡_, refl}
-use Prim.Native.Nat.{ℕ, _^_}
-use lib.IntN.{ℤ, pos, negℤ, _+ℤ_, _-ℤ_, _*ℤ_}
-use lib.Signed.{_≤ℤ_, _<ℤ_, ltZ, leZ-yes}
+use Prim.Native.Nat.{_^_}
+use lib.IntN.{ℤ, pos, _+ℤ_, _-ℤ_, _*ℤ_}
+use lib.Signed.{_≤ℤ_, ltZ, leZ-yes}
 use lib.ListN.{getD}
 use native.Mathlib.Omega.{arith}
 use Rattle.whole.specs.Difference.{all2, difs}
 use Rattle.whole.specs.Order.{ltZ-false, ≤ℤ-trans}
-use Rattle.whole.specs.Within.{Within, neg-in, add-in, sub-in, mul-in, lit-in, widen, from-zero}
+use Rattle.whole.specs.Within.{Within, neg-in, sub-in, mul-in, lit-in, widen, from-zero}
 use Rattle.track.specs.Numbers.{IsPosition, IsVelocity, IsMinute, IsEdge, IsKept, IsIdentifier, minute-in}
 use Rattle.track.specs.Query.{EdgesInRange, QueryInRange}
 use Rattle.track.specs.Meets.{Row, Bounds, low, high, lowVelocity, highVelocity, span, cellBounds}
-use Rattle.track.specs.Cut.{Proper, cutTo, cut-law, startsAt, endsAt, never}
+use Rattle.track.specs.Cut.{cutTo}
 use Rattle.track.specs.Decides.{gapAt, gapBy, gapLine, turnedLine, alongTo, wholeOf, meetingOf}
 use Rattle.track.specs.declared.interval.Interval.{Interval}
 use Rattle.track.specs.declared.interval.Line.{Line}

@@ -5,7 +5,7 @@ use Rattle.whole.specs.Tells.{Tells, tells-true, tells-false, passed-not, faile
 use Rattle.words.specs.Layout.{nodeAt}
 use Rattle.node.specs.Entry.{IsCount, countWord, countOf}
 use Rattle.node.specs.EntryLaws.{length-entriesOf}
-use Rattle.table.specs.Header.{root, height, entriesAt}
+use Rattle.table.specs.Header.{root, entriesAt}
 use Rattle.table.specs.ScanParts.{node-in-table}
 use borrow.Author.Needs.{needs}
 use Rattle.table.proofs.header.root_sound.Statement.{statement}

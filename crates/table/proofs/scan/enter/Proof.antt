@@ -7,7 +7,7 @@ use mir.Val.{toZ, ofZ}
 use Rattle.whole.specs.Tells.{Tells, passed-not, failed-not}
 use Rattle.whole.specs.Within.{back}
 use Rattle.words.specs.Layout.{entryAt, nodeAt}
-use Rattle.node.specs.Entry.{childOf, countWord}
+use Rattle.node.specs.Entry.{childOf}
 use Rattle.table.specs.Header.{entriesAt}
 use Rattle.table.specs.Tree.{EntrySound}
 use Rattle.table.specs.Scan.{Counted, entered-yes, entered-no}

@@ -1,15 +1,11 @@
-use mathlib.Core.Path.{_≡_, refl, sym, ap, _∙_, subst}
-use mathlib.Core.Bool.{Bool}
-use lib.Dec.{eqb}
+use mathlib.Core.Path.{_≡_, ap, _∙_}
 use mir.Syntax.{w32}
 use mir.Val.{toZ, ofZ}
 use Rattle.whole.specs.Within.{back}
 use Rattle.whole.specs.Tells.{Tells, tells-false, tells-as, passed-not, failed-not}
 use Rattle.words.specs.Layout.{entryAt, nodeAt}
 use Rattle.node.specs.Entry.{childOf, entriesOf}
-use Rattle.node.specs.WorkedOut.{WorkedOut}
 use Rattle.table.specs.Header.{entriesAt}
-use Rattle.table.specs.Tree.{isLeaf}
 use Rattle.table.specs.ScanParts.{ChildSound, StampSound, entry-sound, child-sound, stamp-sound, node-in-table, leaf-test}
 use borrow.Author.Needs.{needs}
 use Rattle.table.proofs.scan.entry_sound.Statement.{statement}

@@ -1,8 +1,4 @@
-use mathlib.Core.Path.{_≡_, refl, sym, subst}
-use mathlib.Core.Logic.{_↔_}
-use mathlib.Core.Bool.{Bool, true, false}
-use lib.Dec.{T}
-use Rattle.whole.specs.Tells.{Tells, tells-iff}
+use Rattle.whole.specs.Tells.{tells-iff}
 use Rattle.sort.specs.SortedLaws.{sorted-tells}
 use borrow.Author.Needs.{needs}
 use Rattle.table.proofs.sound.distinct.Statement.{statement}

@@ -1,11 +1,11 @@
-use mathlib.Core.Path.{_≡_, refl, sym, ap, _∙_, subst}
-use Prim.Native.Nat.{ℕ, _≤_}
+use mathlib.Core.Path.{_≡_, sym, ap, _∙_}
+use Prim.Native.Nat.{_≤_}
 use native.Mathlib.Omega.{arith}
-use lib.ListN.{length, set, take, length-set}
+use lib.ListN.{length, set, length-set}
 use lib.Seq.{length-take-le}
 use mir.Syntax.{w32}
 use mir.Val.{toZ, ofZ}
-use Rattle.whole.specs.Tells.{Tells, tells-false, tells-as, passed-not, failed-not}
+use Rattle.whole.specs.Tells.{tells-false, tells-as, passed-not, failed-not}
 use Rattle.whole.specs.Within.{word-back}
 use Rattle.table.specs.Header.{capacity, clock, root, height, entriesAt, nodesFor}
 use Rattle.table.specs.Scan.{Outcome, Counted, Passes, Leaves}

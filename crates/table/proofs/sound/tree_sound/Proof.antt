@@ -1,5 +1,4 @@
 use lib.Dec.{lit≤}
-use lib.ListN.{replicate}
 use Rattle.table.specs.SoundBy.{zeros}
 use borrow.Author.Needs.{needs}
 use Rattle.table.proofs.sound.tree_sound.Statement.{statement}

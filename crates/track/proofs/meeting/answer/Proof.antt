@@ -1,4 +1,4 @@
-use mathlib.Core.Path.{_≡_, refl, subst, _∙_}
+use mathlib.Core.Path.{refl, subst, _∙_}
 use borrow.Author.Needs.{needs}
 use Rattle.whole.specs.Within.{word-back}
 use Rattle.whole.specs.Tells.{passed, failed}

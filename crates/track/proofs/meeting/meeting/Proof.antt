@@ -1,11 +1,10 @@
 use mathlib.Core.Path.{_≡_}
 use mathlib.Core.List.{[]}
-use lib.IntN.{pos}
 use lib.ListN.{getD}
 use mir.Syntax.{w32, w64}
 use mir.Val.{toZ, ofZ}
 use borrow.Author.Needs.{needs}
-use Rattle.whole.specs.Within.{Within, read32, read64, widen}
+use Rattle.whole.specs.Within.{read32, read64}
 use Rattle.track.specs.Numbers.{minute-in}
 use Rattle.track.specs.Meets.{span}
 use Rattle.track.specs.Decides.{meetingOf, alongTo, wholeOf}

@@ -1,11 +1,8 @@
-use mathlib.Core.Path.{_≡_, sym, _∙_, ap, subst}
-use mathlib.Core.Bool.{Bool}
+use mathlib.Core.Path.{_≡_}
 use borrow.Author.Needs.{needs}
 use Rattle.whole.specs.Within.{back}
-use Rattle.whole.specs.Tells.{Tells}
 use Rattle.track.specs.Numbers.{minute-in}
-use Rattle.track.specs.Meets.{Meets}
-use Rattle.track.specs.Decides.{meetsIn, meetingOf, meets-law}
+use Rattle.track.specs.Decides.{meetsIn, meets-law}
 use Rattle.track.specs.Small.{meeting-small}
 use Rattle.track.proofs.meeting.meets.Statement.{statement}
 use Rattle.track.proofs.meeting.meets.Tie as tie

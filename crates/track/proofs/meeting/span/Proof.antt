@@ -1,7 +1,5 @@
 use mathlib.Core.Path.{_≡_}
-use lib.IntN.{pos, _-ℤ_}
-use lib.Signed.{ltZ}
-use mathlib.Core.Bool.{true, false}
+use lib.IntN.{_-ℤ_}
 use mir.Syntax.{w32, w64}
 use mir.Val.{toZ, ofZ}
 use borrow.Author.Needs.{needs}

@@ -2,7 +2,7 @@ use mathlib.Core.Path.{_≡_, sym, subst}
 use lib.IntN.{ℤ, pos, negℤ, natAbs, _-ℤ_}
 use lib.Signed.{_≤ℤ_, _<ℤ_, leZ-yes, clashℤ}
 use mir.Syntax.{w32}
-use mir.Val.{SFits, toZ, ofZ}
+use mir.Val.{toZ, ofZ}
 use Rattle.whole.specs.Within.{Within, back, fits, sub-in, lit-in, neg-read32, from-zero, between, at-most, at-least, abs-positive}
 use Rattle.whole.specs.Order.{ltZ-true, ltZ-false}
 use Rattle.whole.specs.Tells.{tells-false}

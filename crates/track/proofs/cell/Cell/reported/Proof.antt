@@ -1,7 +1,7 @@
-use mathlib.Core.Path.{_≡_, refl, ap, _∙_}
+use mathlib.Core.Path.{_≡_, refl}
 use mathlib.Core.Logic.{inl, inr}
-use lib.IntN.{ℤ, pos}
-use lib.Signed.{_<ℤ_, _≤ℤ_, clashℤ}
+use lib.IntN.{ℤ}
+use lib.Signed.{_≤ℤ_, clashℤ}
 use mir.Syntax.{w32}
 use mir.Val.{toZ, ofZ}
 use borrow.Author.Needs.{needs}

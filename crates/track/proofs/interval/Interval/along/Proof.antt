@@ -1,4 +1,4 @@
-use mathlib.Core.Path.{_≡_, sym}
+use mathlib.Core.Path.{_≡_}
 use lib.IntN.{pos}
 use lib.ListN.{getD}
 use mir.Syntax.{w32, w64}
@@ -8,8 +8,7 @@ use Rattle.whole.specs.Within.{read32, read64}
 use Rattle.track.specs.Meets.{low, high, lowVelocity, highVelocity}
 use Rattle.track.specs.Cut.{cutTo}
 use Rattle.track.specs.Decides.{gapLine, turnedLine, alongTo}
-use Rattle.track.specs.Small.{Small, SmallLine, gap-small, turned-small, cut-small}
-use Rattle.track.specs.declared.interval.Interval.{Interval}
+use Rattle.track.specs.Small.{SmallLine, gap-small, turned-small, cut-small}
 use Rattle.track.specs.declared.interval.Line.{Line}
 use Rattle.track.proofs.interval.Interval.along.Statement.{statement}
 use Rattle.track.proofs.interval.Interval.along.Tie as tie

@@ -1,5 +1,5 @@
 use mathlib.Core.Path.{_≡_}
-use lib.Signed.{ltZ-yes, leZ-yes}
+use lib.Signed.{leZ-yes}
 use mir.Syntax.{w32}
 use mir.Val.{toZ, ofZ}
 use borrow.Author.Needs.{needs}
