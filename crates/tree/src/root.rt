@@ -1,4 +1,4 @@
-// The root of a table's tree: it grows, a cell is put in below it, and it gives way.
+// The root of a table's tree: it grows, and a cell is put in below it. How it gives way is in clear.rt.
 use crate::afresh::entry_above;
 use crate::at::count_at;
 use crate::at::nodes_of;
