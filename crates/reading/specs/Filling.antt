@@ -177,7 +177,7 @@ module _ {cells : ℤ} {w : List ℤ} {bytes : List ℕ} (can : CanRead cells w 
       clock-is = set-clock .clock-is;
       holds = λ c. (λ m. of-sheet c (rw held-is at m), λ m. rw held-is (from-sheet c m));
       stamped = λ e m.
-          ⊎-elim (λ s. s) (λ n. absurd (no-inner (f .sound) (can-fill .none-yet) e n)) (entries-at-last (f .sound) (fill .holding) (fill .stands) set-clock few once (fill .renews) e m);
+          ⊎-elim (λ s. s) (λ n. absurd (no-inner (f .sound) (can-fill .none-yet) e (n .0))) (entries-at-last (f .sound) (fill .holding) (fill .stands) set-clock few once (fill .renews) e m);
       as-long = at-last .same-length ∙ f .as-long;
       rest-kept = rw capacity-same at (rest-at-last (f .sound) (fill .holding) (fill .stands) set-clock few once) ∙ f .rest-kept;
     }

@@ -9,13 +9,13 @@ use Rattle.whole.specs.Lists.{_∈_}
 use Rattle.words.specs.Words.{natOf}
 use Rattle.track.specs.Refusals.{Reason, _when_, First}
 use Rattle.track.specs.declared.cell.Cell.{Cell}
-use Rattle.node.specs.Entry.{Entry, stampOf}
+use Rattle.node.specs.Entry.{stampOf}
 use Rattle.table.specs.Header.{capacityWord, clock, wordsFor}
 use Rattle.table.specs.Fresh.{freshReasons}
 use Rattle.table.specs.Sound.{Sound, held}
 use Rattle.sheet.specs.Sheet.{mostCells, countOf, clockOf, cellsOf}
 use Rattle.sheet.specs.WellFormed.{HeaderSound, RecordsSound}
-use Rattle.tree.specs.Steps.{outcomeNumber, inners}
+use Rattle.tree.specs.Steps.{outcomeNumber, InnerEntry, inners}
 use Rattle.tree.specs.declared.outcome.Outcome.{Outcome}
 
 -- why the bytes are not read into the words w as a table for so many cells, in the order in which it is tried: as for a fresh table, then the sheet's own
@@ -34,7 +34,7 @@ pub record IsRead (cells : ℤ) (w : List ℤ) (bytes : List ℕ) (v : List ℤ)
   pub clock-is : clock v ≡ clockOf bytes
   pub holds : (c : Cell) → c ∈ held v ↔ c ∈ cellsOf bytes
   -- each inner entry was worked out at the sheet's clock
-  pub stamped : (e : Entry) → e ∈ inners v → stampOf e ≡ clockOf bytes
+  pub stamped : (e : InnerEntry) → e ∈ inners v → stampOf (e .entry) ≡ clockOf bytes
   pub as-long : length v ≡ length w
   pub rest-kept : drop (wordsFor (natOf cells)) v ≡ drop (wordsFor (natOf cells)) w
 

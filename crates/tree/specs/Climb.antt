@@ -1,5 +1,5 @@
 -- A change below a child, and the node above it mended: its entry worked out afresh, or its child joined with another or sharing with it.
-use mathlib.Core.Path.{_≡_, refl, ap}
+use mathlib.Core.Path.{_≡_, refl, sym, ap, _∙_}
 use mathlib.Core.Logic.{⊎-elim}
 use mathlib.Core.List.{List, [], _∷_, _++_, List·Memᴰ·head, List·Memᴰ·tail, List·Memᴰ·cases-cons, Memᴰ·append-left, Memᴰ·append-right}
 use Prim.Native.Nat.{ℕ, zero, suc, _+_}
@@ -11,9 +11,9 @@ use Rattle.table.specs.Tree.{Nodes, TreeSound}
 use Rattle.table.specs.Reach.{flat-in}
 use Rattle.table.specs.Scan.{SoundIn, sound-in}
 use Rattle.tree.specs.Weights.{SameWeights, same-refl, same-sym, same-trans, same-append, same-swap, same-entries, visits, Once, isNode, under, sound-in-frame, sound-has, sound-head, sound-tail}
-use Rattle.tree.specs.Inner.{AllInner, InnerIn, Renews, inner-part, inner-has, inner-in-frame}
+use Rattle.tree.specs.Inner.{Start, AllInner, InnerIn, Renews, inner-in, inner-part, inner-has, inner-in-frame}
 use Rattle.tree.specs.Moved.{Moved, Fresh, noWeight, noNode, moved-as, moved-trans, moved-down, down-agree, down-has, down-once}
-use Rattle.tree.specs.Regroup.{children, child-one, child-two, for-one, for-two, Regrouped, Afresh, regroup-as, regroup-once, regroup-sound, regroup-renews, refresh, split, split-moved, split-sound, join, share}
+use Rattle.tree.specs.Regroup.{children, child-one, child-two, for-one, for-two, Regrouped, Afresh, regroup-as, regroup-once, regroup-sound, regroup-fine, regroup-renews, refresh, split, split-moved, split-sound, join, share}
 
 -- what moved below node i, below which no node is met twice, and which is sound again
 pub record Mended (cells : ℕ) (clock : ℤ) (N N′ : Nodes) (h i : ℕ) (put out : (Entry → ℕ) → ℕ) (got gone : ℕ → ℕ) : Type 0 where
@@ -64,20 +64,23 @@ module _ (cells : ℕ) (clock : ℤ) (i : ℕ) {N N₁ : Nodes} {h : ℕ} {e : E
   pub climb-rest : SoundIn N₁ cells clock (suc h) rest
   climb-rest = sound-in-frame N N₁ cells clock (suc h) rest (down-agree i has once fresh (m .moved)) rest-sound
 
-  -- the change below the child, seen from i
-  climb-renews : Renews clock N (suc h) i N₁ (suc h) i
-  unfolding AllInner InnerIn
-  climb-renews S new all = λ d n.
-      let both = inner-has S N (suc h) i has all in
-      let own = both e (List·Memᴰ·head refl) in
-      let others = inner-in-frame S N N₁ (suc h) rest (down-agree i has once fresh (m .moved)) (inner-part S N (suc h) (λ c k. List·Memᴰ·tail k) both) in
-      ⊎-elim (λ (q : d ≡ e). rw q (own .0, m .renews S new (own .1))) (others d) (List·Memᴰ·cases-cons (same-entries climb-has d n))
+  -- the inner entries after the change below the child: those of the others, and those beneath e, which itself may be stale
+  module _ (S : Start) (new : S .minute ≡ clock) (all : AllInner S N (suc h) i) where
+    both : InnerIn S N (suc h) (e ∷ rest)
+    both = inner-has S N (suc h) i has all
+
+    climb-others : InnerIn S N₁ (suc h) rest
+    climb-others = inner-in-frame S N N₁ (suc h) rest (down-agree i has once fresh (m .moved)) (inner-part S N (suc h) (λ c k. List·Memᴰ·tail k) both)
+
+    climb-own : AllInner S N₁ h (childOf e)
+    unfolding InnerIn
+    climb-own = m .renews S new (both e (List·Memᴰ·head refl) .1)
 
   -- e and some of the others are regrouped; of their children `freed` go out and none comes in
   pub climb : {N₂ : Nodes} {others olds news rest′ : List Entry} {gone′ : ℕ → ℕ} (freed : ℕ → ℕ) → SameWeights rest (others ++ rest′) → olds ⊆ e ∷ others
       → Regrouped N₁ N₂ h i olds news rest′ → ((d : Entry) → d ∈ news → Afresh N₂ cells clock h d)
       → ((j : ℕ) → children news j + freed j ≡ children olds j) → ((j : ℕ) → gone j + freed j ≡ gone′ j) → Mended cells clock N N₂ (suc h) i put out got gone′
-  unfolding SoundIn
+  unfolding SoundIn InnerIn
   climb {others} {olds} {rest′} freed parts from r afresh nodes sum = record {
     moved = moved-as (moved-trans (moved-down i has once fresh (m .moved)) (regroup-as r {got = noNode} {gone = freed} (λ j. omega (arith, nodes j))))
         (λ φ. omega arith) (λ j. omega (arith, sum j)) (λ j z g. omega arith);
@@ -85,11 +88,21 @@ module _ (cells : ℕ) (clock : ℤ) (i : ℕ) {N N₁ : Nodes} {h : ℕ} {e : E
     sound = regroup-sound r cells clock
         (λ d n. climb-rest d (same-entries (same-sym parts) d (Memᴰ·append-right others n)))
         (under-sound h (λ o n. child-sound o (from o n))) afresh;
-    renews = λ S new all. regroup-renews r clock (λ d n. afresh d n .stamped) S new (climb-renews S new all);
+    renews = λ S new all. regroup-fine r S (λ d n. afresh d n .stamped ∙ sym new)
+        (inner-part S N₁ (suc h) (λ d n. same-entries (same-sym parts) d (Memᴰ·append-right others n)) (climb-others S new all))
+        (under-fine S h (λ o n. child-fine S new all o (from o n)));
   }
     where
       child-sound : (o : Entry) → o ∈ e ∷ others → TreeSound N₁ cells clock h (childOf o)
       child-sound o n = ⊎-elim (λ (q : o ≡ e). rw q (m .sound)) (λ k. climb-rest o (same-entries (same-sym parts) o (Memᴰ·append-left rest′ k)) .1) (List·Memᴰ·cases-cons n)
+
+      child-fine : (S : Start) → S .minute ≡ clock → AllInner S N (suc h) i → (o : Entry) → o ∈ e ∷ others → AllInner S N₁ h (childOf o)
+      child-fine S new all o n =
+          ⊎-elim (λ (q : o ≡ e). rw q (climb-own S new all)) (λ k. climb-others S new all o (same-entries (same-sym parts) o (Memᴰ·append-left rest′ k)) .1) (List·Memᴰ·cases-cons n)
+
+      under-fine : (S : Start) (h : ℕ) → ((o : Entry) → o ∈ olds → AllInner S N₁ h (childOf o)) → InnerIn S N₁ h (under N₁ olds)
+      under-fine S zero each = tt
+      under-fine S (suc h) each = λ d n. let f = flat-in (λ o. N₁ (childOf o)) olds n in inner-in S N₁ (suc h) (childOf (f .0)) (each (f .0) (f .1)) d (f .2)
 
       under-sound : (h : ℕ) → ((o : Entry) → o ∈ olds → TreeSound N₁ cells clock h (childOf o)) → SoundIn N₁ cells clock h (under N₁ olds)
       under-sound zero each = λ d n. let f = flat-in (λ o. N₁ (childOf o)) olds n in sound-in N₁ cells clock zero (childOf (f .0)) (each (f .0) (f .1)) d (f .2)

@@ -1,7 +1,6 @@
 -- An inner node and some of its children rewritten: one law for a refreshed entry, a split, a join and a sharing out.
 use mathlib.Core.Path.{_≡_, refl, sym, ap, _∙_, subst}
-use mathlib.Core.Bool.{true}
-use mathlib.Core.Logic.{⊎-elim}
+use mathlib.Core.Logic.{inl, ⊎-elim}
 use mathlib.Core.List.{List, [], _∷_, _++_, map, flatMap, List·Memᴰ·cases-cons, List·Memᴰ·append-cases, List·Memᴰ·eq-of-singleton, Memᴰ·append-left, Memᴰ·append-right}
 use Prim.Native.Nat.{ℕ, zero, suc, _+_, _≤_, _<_}
 use native.Mathlib.Decide.{ℕ-discrete}
@@ -19,7 +18,7 @@ use Rattle.table.specs.Tree.{Nodes, isLeaf, NotBefore, EntrySound, TreeSound}
 use Rattle.table.specs.Reach.{in-flat}
 use Rattle.table.specs.Scan.{SoundIn, sound-in, in-sound}
 use Rattle.tree.specs.Weights.{sumOver, sum-none, sum-append, SameWeights, same-refl, same-as, same-sym, same-trans, same-append, same-entries, weight, visits, visitsIn, Once, isNode, is-self, is-other, not-other, times-cons, times-none, under, AgreeIn, weight-has, visits-has, visits-child, visits-self, weight-same, visits-same, weight-append, visits-append, weight-under, visits-under, leaves-in-frame, nodes-in-frame, sound-in-frame, sound-part}
-use Rattle.tree.specs.Inner.{AllInner, InnerIn, Renews, in-inner, inner-part, inner-has, inner-under, inner-in-frame}
+use Rattle.tree.specs.Inner.{Start, Fine, AllInner, InnerIn, Renews, in-inner, inner-part, inner-has, inner-under, inner-in-frame}
 use Rattle.tree.specs.Moved.{Moved, noWeight, noNode, moved-as}
 
 -- how often node j is the child of one of the entries es
@@ -129,24 +128,28 @@ module _ {N N′ : Nodes} {h i : ℕ} {olds news rest : List Entry} (r : Regroup
           let own = sound-part N′ cells clock h {es = N′ (childOf e)} (λ f n. same-entries (same-sym (r .shared)) f (in-flat (λ d. N′ (childOf d)) m n)) all in
           (afresh-sound (afresh e m) own, in-sound N′ cells clock h (childOf e) own)
 
-  -- the inner entries: what is new is stamped at the clock
+  -- the inner entries: what is new is stamped at the clock, and the olds themselves may be stale
+  pub regroup-fine : (S : Start) → ((e : Entry) → e ∈ news → stampOf e ≡ S .minute) → InnerIn S N (suc h) rest → InnerIn S N h (under N olds) → AllInner S N′ (suc h) i
+  unfolding AllInner InnerIn
+  regroup-fine S stamped rest-all under-all = λ e m.
+      ⊎-elim (of-news e) (inner-in-frame S N N′ (suc h) rest rest-agree rest-all e) (List·Memᴰ·append-cases news (same-entries (r .after) e m))
+    where
+      under-now : InnerIn S N′ h (under N olds)
+      under-now = inner-in-frame S N N′ h (under N olds) under-agree under-all
+
+      of-news : (e : Entry) → e ∈ news → Fine S N′ h e × AllInner S N′ h (childOf e)
+      of-news e m =
+          (inl (stamped e m), in-inner S N′ h (childOf e) (inner-part S N′ h (λ f n. same-entries (same-sym (r .shared)) f (in-flat (λ d. N′ (childOf d)) m n)) under-now))
+
   pub regroup-renews : (clock : ℤ) → ((e : Entry) → e ∈ news → stampOf e ≡ clock) → Renews clock N (suc h) i N′ (suc h) i
   unfolding AllInner InnerIn
-  regroup-renews clock stamped S new all = λ e m.
-      ⊎-elim (of-news e) (inner-in-frame S N N′ (suc h) rest rest-agree rest-all e) (List·Memᴰ·append-cases news (same-entries (r .after) e m))
+  regroup-renews clock stamped S new all = regroup-fine S (λ e m. stamped e m ∙ sym new) rest-all (inner-under S N h olds (inner-part S N (suc h) (λ d n. Memᴰ·append-left rest n) both))
     where
       both : InnerIn S N (suc h) (olds ++ rest)
       both = inner-has S N (suc h) i (r .before) all
 
       rest-all : InnerIn S N (suc h) rest
       rest-all = inner-part S N (suc h) (λ d n. Memᴰ·append-right olds n) both
-
-      under-all : InnerIn S N′ h (under N olds)
-      under-all = inner-in-frame S N N′ h (under N olds) under-agree (inner-under S N h olds (inner-part S N (suc h) (λ d n. Memᴰ·append-left rest n) both))
-
-      of-news : (e : Entry) → e ∈ news → (S e ≡ true) × AllInner S N′ h (childOf e)
-      of-news e m =
-          (new e (stamped e m), in-inner S N′ h (childOf e) (inner-part S N′ h (λ f n. same-entries (same-sym (r .shared)) f (in-flat (λ d. N′ (childOf d)) m n)) under-all))
 
 -- ---- one entry and two
 pub child-one : (a : Entry) (j : ℕ) → children (a ∷ []) j ≡ isNode j (childOf a)

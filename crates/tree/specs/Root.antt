@@ -1,5 +1,6 @@
 -- The root changed: a new one above it, and one that gives way to its only child.
-use mathlib.Core.Path.{_≡_, refl, ap}
+use mathlib.Core.Path.{_≡_, refl, sym, ap, _∙_}
+use mathlib.Core.Logic.{inl}
 use mathlib.Core.List.{[], _∷_, List·Memᴰ·head, List·Memᴰ·eq-of-singleton}
 use Prim.Native.Nat.{ℕ, suc, _+_}
 use native.Mathlib.Omega.{arith}
@@ -43,7 +44,7 @@ module _ (N N′ : Nodes) (h r : ℕ) {e : Entry} (only : N′ r ≡ e ∷ []) (
   pub grow-renews : (clock : ℤ) → stampOf e ≡ clock → Renews clock N h (childOf e) N′ (suc h) r
   unfolding AllInner
   grow-renews clock stamped S new all = λ d m.
-      rw (List·Memᴰ·eq-of-singleton (rw only at m)) (new e stamped, inner-frame S N N′ h (childOf e) grow-agree all)
+      rw (List·Memᴰ·eq-of-singleton (rw only at m)) (inl (stamped ∙ sym new), inner-frame S N N′ h (childOf e) grow-agree all)
 
 -- giving way: the root r with the only entry e is left out, and e's child is the root
 module _ (N N′ : Nodes) (h r : ℕ) {e : Entry} (only : N r ≡ e ∷ []) (once : Once N (suc h) r) (other : (j : ℕ) → (j ≡ r → ⊥) → N′ j ≡ N j) where

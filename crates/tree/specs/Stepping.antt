@@ -31,7 +31,7 @@ use Rattle.tree.specs.Goes.{Goes}
 use Rattle.tree.specs.Clear.{Cleared}
 use Rattle.tree.specs.Staying.{stays, goes-none, stays-one}
 use Rattle.tree.specs.StayingLaws.{manyStay}
-use Rattle.tree.specs.Steps.{inners, Stays, Step}
+use Rattle.tree.specs.Steps.{InnerEntry, inners, SameBelow, Stays, Step}
 use Rattle.tree.specs.Renewed.{renewed-entries}
 
 pub sound-ample : {w : List ℤ} → Sound w → Ample w
@@ -90,8 +90,8 @@ module _ {w v u : List ℤ} {minute : ℤ} (s : Sound w) (h : Holding v minute) 
       tree : WholeTree u
       tree = rw (set-clock .clock-is, stands-capacity stands-at-last, ← stands-capacity stood, same, root-same, height-same) (h .whole)
 
-  pub entries-at-last : RenewsAll minute w v → (e : Entry) → e ∈ inners u → (stampOf e ≡ minute) ⊎ (e ∈ inners w)
-  entries-at-last renews e m = renewed-entries w v renews e (rw (same, root-same, height-same) at m)
+  pub entries-at-last : RenewsAll minute w v → (e : InnerEntry) → e ∈ inners u → (stampOf (e .entry) ≡ minute) ⊎ ((e ∈ inners w) × SameBelow w u e)
+  entries-at-last renews e m = rw same (renewed-entries w v renews e (rw (same, root-same, height-same) at m))
 
   pub rest-at-last : drop (wordsFor (capacity w)) u ≡ drop (wordsFor (capacity w)) w
   rest-at-last = same-behind w u (wordsFor (capacity w)) (stands-at-last .same-length) (stands-at-last .same-rest)
@@ -165,6 +165,7 @@ module _ {w v : List ℤ} {minute id : ℤ} (s : Sound w) (c : Cleared w minute 
           λ l. let f = Memᴰ·of-map cellOf (leaves v) (rw is at (l .is-held)) in subst (Stays w minute id) (f .2) (left-stays (f .0) (f .1)),
           λ t. record { is-held = rw is (stays-left d t); in-life = rw (set-clock .clock-is) (t .lives) },
         );
+        holds = λ d m. let f = Memᴰ·of-map cellOf (leaves v) (rw is at m) in subst (Stays w minute id) (f .2) (left-stays (f .0) (f .1));
         afresh-or-kept = entries-at-last s h stood set-clock fewer still-once (c .clearing .renews);
         as-long = stands-at-last s h stood set-clock fewer still-once .same-length;
         rest-kept = rest-at-last s h stood set-clock fewer still-once;
@@ -203,6 +204,7 @@ module _ {w v : List ℤ} {minute id : ℤ} (s : Sound w) (c : Cleared w minute 
             λ l. let f = Memᴰ·of-map cellOf (leaves u) (rw is at (l .is-held)) in subst Now (f .2) (now-left (f .0) (f .1)),
             λ n. record { is-held = rw is (left-now d n); in-life = rw (set-clock .clock-is) (lives-now d n) },
           );
+          holds = λ d m. let f = Memᴰ·of-map cellOf (leaves u) (rw is at m) in subst Now (f .2) (now-left (f .0) (f .1));
           afresh-or-kept = entries-at-last s h stood-put set-clock fewer-put once-put (λ S new all. p .renews S new (c .clearing .renews S new all));
           as-long = stands-at-last s h stood-put set-clock fewer-put once-put .same-length;
           rest-kept = rest-at-last s h stood-put set-clock fewer-put once-put;

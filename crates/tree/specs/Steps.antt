@@ -1,7 +1,7 @@
 -- What a report and a drop answer, and the table that they leave.
 use mathlib.Core.Path.{_≡_}
 use mathlib.Core.Logic.{_⊎_, _↔_}
-use mathlib.Core.List.{List, [], _∷_, _++_, flatMap}
+use mathlib.Core.List.{List, [], _∷_, _++_, map, flatMap}
 use Prim.Native.Nat.{ℕ, zero, suc}
 use lib.IntN.{ℤ}
 use lib.ListN.{length, drop}
@@ -14,7 +14,7 @@ use Rattle.track.specs.Report.{reportReasons, keptCell}
 use Rattle.track.specs.declared.cell.Cell.{Cell}
 use Rattle.node.specs.Entry.{Entry, childOf, stampOf}
 use Rattle.table.specs.Header.{capacityWord, capacity, clock, root, height, wordsFor, entriesAt}
-use Rattle.table.specs.Tree.{Nodes}
+use Rattle.table.specs.Tree.{Nodes, nodesOf}
 use Rattle.table.specs.Sound.{held, Live, Sound}
 use Rattle.tree.specs.declared.outcome.Outcome.{Outcome}
 use Rattle.tree.specs.declared.outcome.Outcome.the-variants.{Accepted, Refused}
@@ -24,13 +24,25 @@ abbrev pub outcomeNumber : Outcome → ℕ
 outcomeNumber Accepted = 0
 outcomeNumber (Refused r) = number r
 
--- the inner entries that are reached from node i, which has h levels beneath it, and those of a table
-unfoldable pub innersOf : Nodes → ℕ → ℕ → List Entry
-innersOf N zero i = []
-innersOf N (suc h) i = N i ++ flatMap (λ e. innersOf N h (childOf e)) (N i)
+-- an inner entry, and how many levels are beneath its child
+pub record InnerEntry : Type 0 where
+  pub levels : ℕ
+  pub entry : Entry
 
-abbrev pub inners : List ℤ → List Entry
+abbrev pub innerAt : ℕ → Entry → InnerEntry
+innerAt h e = record { levels = h; entry = e }
+
+-- the inner entries that are reached from node i, which has h levels beneath it, and those of a table
+unfoldable pub innersOf : Nodes → ℕ → ℕ → List InnerEntry
+innersOf N zero i = []
+innersOf N (suc h) i = map (innerAt h) (N i) ++ flatMap (λ e. innersOf N h (childOf e)) (N i)
+
+abbrev pub inners : List ℤ → List InnerEntry
 inners w = innersOf (entriesAt w) (height w) (root w)
+
+-- every node beneath the entry has the entries that it had
+abbrev pub SameBelow : List ℤ → List ℤ → InnerEntry → Type 0
+SameBelow w w′ e = (j : ℕ) → j ∈ nodesOf (entriesAt w) (e .levels) (childOf (e .entry)) → entriesAt w′ j ≡ entriesAt w j
 
 -- c is held, lives at the minute, and is another cell than the one with this identifier
 pub record Stays (w : List ℤ) (minute id : ℤ) (c : Cell) : Type 0 where
@@ -58,8 +70,10 @@ pub record Step (w w′ : List ℤ) (minute : ℤ) (Left : Cell → Type 0) : Ty
   pub capacity-is : capacityWord w′ ≡ capacityWord w
   pub clock-is : clock w′ ≡ minute
   pub live : (c : Cell) → Live w′ c ↔ Left c
-  -- an inner entry was worked out at the minute, or stood there before with all its words
-  pub afresh-or-kept : (e : Entry) → e ∈ inners w′ → (stampOf e ≡ minute) ⊎ (e ∈ inners w)
+  -- no other cell is held
+  pub holds : (c : Cell) → c ∈ held w′ → Left c
+  -- an inner entry was worked out at the minute, or it stood there before with all its words and nothing beneath it has changed
+  pub afresh-or-kept : (e : InnerEntry) → e ∈ inners w′ → (stampOf (e .entry) ≡ minute) ⊎ ((e ∈ inners w) × SameBelow w w′ e)
   pub as-long : length w′ ≡ length w
   pub rest-kept : drop (wordsFor (capacity w)) w′ ≡ drop (wordsFor (capacity w)) w
 
