@@ -3,26 +3,26 @@ use mathlib.Core.Bool.{Bool}
 use mathlib.Core.List.{List, [], _∷_, _++_}
 use Prim.Native.Nat.{ℕ}
 use lib.IntN.{ℤ, pos, natAbs}
-use lib.ListN.{replicate}
+use lib.ListN.{getD, replicate}
 use Rattle.whole.specs.Lists.{_∈_}
 use Rattle.words.specs.Words.{rowAt}
 use Rattle.track.specs.HullRange.{BoundsInRangeAt}
+use Rattle.track.specs.Meets.{Bounds}
 use Rattle.track.specs.declared.cell.Cell.{Cell}
 use Rattle.node.specs.Entry.{Entry, boundsOf}
-use Rattle.node.specs.WorkedOut.{hullOn, latestOf}
-use Rattle.node.specs.declared.made.Worked.{Worked}
+use Rattle.node.specs.WorkedOut.{hullOn}
 
--- what entries come to at a minute
-unfoldable pub workedOut : Bool → ℤ → List Entry → Worked
-workedOut leaf minute es = record { x = hullOn leaf 0 minute es; y = hullOn leaf 1 minute es; until = latestOf leaf es }
+-- the bounds that entries come to at a minute
+unfoldable pub workedOut : Bool → ℤ → List Entry → Bounds
+workedOut leaf minute es = hullOn leaf 0 minute es ∷ hullOn leaf 1 minute es ∷ []
 
 -- each is where it can be at the minute, so what they come to then is in range
 abbrev pub InRangeAt : Bool → ℤ → List Entry → Type 0
 InRangeAt leaf minute es = (e : Entry) → e ∈ es → BoundsInRangeAt (natAbs minute) (boundsOf leaf e)
 
 -- child, four numbers for x, four for y, greatest expiry, stamp
-unfoldable pub innerEntry : ℕ → Worked → ℤ → Entry
-innerEntry child made stamp = pos child ∷ (rowAt (made .x) 0 ++ rowAt (made .y) 0 ++ made .until ∷ stamp ∷ [])
+unfoldable pub innerEntry : ℕ → Bounds → ℤ → ℤ → Entry
+innerEntry child b until stamp = pos child ∷ (rowAt (getD b 0 []) 0 ++ rowAt (getD b 1 []) 0 ++ until ∷ stamp ∷ [])
 
 unfoldable pub leafEntry : Cell → Entry
 leafEntry c = c .id ∷ c .x ∷ c .vx ∷ c .y ∷ c .vy ∷ c .expiry .at ∷ replicate 5 (pos 0)

@@ -5,7 +5,7 @@ use mathlib.Core.List.{List, [], _∷_, Memᴰ·of-map}
 use Prim.Native.Nat.{ℕ, _+_, _*_, _≤_}
 use native.Mathlib.Omega.{arith}
 use lib.IntN.{ℤ, pos, natAbs, _+ℤ_, _*ℤ_}
-use lib.ListN.{length}
+use lib.ListN.{length, getD}
 use lib.Signed.{_≤ℤ_}
 use Rattle.whole.specs.Lists.{_∈_}
 use Rattle.whole.specs.Within.{Within, abs-positive, add-in, mul-in, lit-in}
@@ -16,11 +16,11 @@ use Rattle.track.specs.Numbers.{IsMinute, minute-in}
 use Rattle.track.specs.Small.{RowInRange, CellInRange}
 use Rattle.track.specs.HullLaws.{hull-tight}
 use Rattle.track.specs.HullRange.{IsEdgeAt, RowInRangeAt, BoundsInRangeAt, row-at-zero, tight-in-range, cell-in-range}
+use Rattle.track.specs.Meets.{Bounds}
 use Rattle.track.specs.declared.cell.Cell.{Cell}
 use Rattle.node.specs.Entry.{Entry, cellOf, childWord, stampOf, boundsOf, untilOf}
-use Rattle.node.specs.WorkedOut.{rowOf, hullOn, WorkedOut}
+use Rattle.node.specs.WorkedOut.{rowOf, hullOn, latestOf, WorkedOut}
 use Rattle.node.specs.Made.{workedOut, InRangeAt, innerEntry, leafEntry}
-use Rattle.node.specs.declared.made.Worked.{Worked}
 
 -- ---- what entries come to at a minute
 pub length-hullOn : (leaf : Bool) (axis : ℕ) (minute : ℤ) (es : List Entry) → length (hullOn leaf axis minute es) ≡ 4
@@ -63,36 +63,37 @@ pub stamped-in-range : {minute : ℤ} {es : List Entry} → IsMinute minute → 
 stamped-in-range {minute} is early each = λ e m. each e m (natAbs minute) (rw (abs-positive minute (is .from)) at (early e m))
 
 -- ---- an inner entry
-module _ (child : ℕ) (made : Worked) (stamp : ℤ) where
-  pub length-inner : length (innerEntry child made stamp) ≡ entryWords
+module _ (child : ℕ) (b : Bounds) (until stamp : ℤ) where
+  pub length-inner : length (innerEntry child b until stamp) ≡ entryWords
   unfolding innerEntry rowAt
   length-inner = refl
 
-  pub child-inner : childWord (innerEntry child made stamp) ≡ pos child
+  pub child-inner : childWord (innerEntry child b until stamp) ≡ pos child
   unfolding innerEntry
   child-inner = refl
 
-  pub stamp-inner : stampOf (innerEntry child made stamp) ≡ stamp
+  pub stamp-inner : stampOf (innerEntry child b until stamp) ≡ stamp
   unfolding innerEntry rowAt
   stamp-inner = refl
 
-  pub bounds-inner : boundsOf false (innerEntry child made stamp) ≡ rowAt (made .x) 0 ∷ rowAt (made .y) 0 ∷ []
+  pub bounds-inner : boundsOf false (innerEntry child b until stamp) ≡ rowAt (getD b 0 []) 0 ∷ rowAt (getD b 1 []) 0 ∷ []
   unfolding innerEntry boundsOf rowAt
   bounds-inner = refl
 
-  pub until-inner : untilOf false (innerEntry child made stamp) ≡ made .until
+  pub until-inner : untilOf false (innerEntry child b until stamp) ≡ until
   unfolding innerEntry untilOf rowAt
   until-inner = refl
 
 -- what is made of a child's entries at the stamp is worked out from them
-pub inner-worked-out : (leaf : Bool) (child : ℕ) (stamp : ℤ) (es : List Entry) → WorkedOut leaf (innerEntry child (workedOut leaf stamp es) stamp) es
+pub inner-worked-out : (leaf : Bool) (child : ℕ) (stamp : ℤ) (es : List Entry) → WorkedOut leaf (innerEntry child (workedOut leaf stamp es) (latestOf leaf es) stamp) es
 unfolding workedOut
 inner-worked-out leaf child stamp es =
-    let made = workedOut leaf stamp es in
+    let b = workedOut leaf stamp es in
+    let until = latestOf leaf es in
     record {
-      on-x = rw (bounds-inner child made stamp, stamp-inner child made stamp) (rowAt-whole _ (length-hullOn leaf 0 stamp es));
-      on-y = rw (bounds-inner child made stamp, stamp-inner child made stamp) (rowAt-whole _ (length-hullOn leaf 1 stamp es));
-      until = until-inner child made stamp;
+      on-x = rw (bounds-inner child b until stamp, stamp-inner child b until stamp) (rowAt-whole _ (length-hullOn leaf 0 stamp es));
+      on-y = rw (bounds-inner child b until stamp, stamp-inner child b until stamp) (rowAt-whole _ (length-hullOn leaf 1 stamp es));
+      until = until-inner child b until stamp;
     }
 
 -- ---- a leaf's entry

@@ -1,5 +1,4 @@
 // The entries that are put in: a leaf's entry, made from its cell, and an inner entry, made from what its child comes to at a minute.
-use crate::worked::latest;
 use crate::worked::worked_row;
 use track::cell::Cell;
 use words::Entry;
@@ -10,13 +9,6 @@ ghost use Rattle.track.specs.Numbers.{IsMinute, IsEdge};
 ghost use Rattle.track.specs.Small.{RowInRange};
 ghost use Rattle.node.specs.Entry.{entriesOf};
 ghost use Rattle.node.specs.Made.{workedOut, innerEntry, leafEntry, InRangeAt};
-
-// What a node comes to at a minute: a row for x, a row for y, and the greatest expiry.
-pub struct Worked {
-    pub x: [i32; 4],
-    pub y: [i32; 4],
-    pub until: i32,
-}
 
 fn narrow(z: i64) -> i32
     requires { ⌜ IsEdge z ⌝ }
@@ -32,26 +24,23 @@ fn narrow_row(r: [i64; 4]) -> [i32; 4]
     [narrow(r[0]), narrow(r[1]), narrow(r[2]), narrow(r[3])]
 }
 
-pub fn work_out(child: &[i32], leaf: bool, minute: i32) -> Worked
+// The bounds that a node's entries come to at a minute: a row for x and a row for y.
+pub fn work_out(child: &[i32], leaf: bool, minute: i32) -> [[i32; 4]; 2]
     requires { ⌜ (IsMinute minute) × (InRangeAt leaf minute (entriesOf (now child))) ⌝ }
     ensures { λ r. ⌜ r ≡ workedOut leaf minute (entriesOf (now (child .entry))) ⌝ }
 {
     let x = narrow_row(worked_row(child, leaf, 0, minute));
     let y = narrow_row(worked_row(child, leaf, 1, minute));
-    Worked {
-        x,
-        y,
-        until: latest(child, leaf),
-    }
+    [x, y]
 }
 
-// The inner entry above a child, worked out at the stamp.
-pub fn inner_entry(child: usize, made: Worked, stamp: i32) -> Entry
+// The inner entry above a child, with its bounds and the greatest expiry beneath, worked out at the stamp.
+pub fn inner_entry(child: usize, b: [[i32; 4]; 2], until: i32, stamp: i32) -> Entry
     requires { ⌜ child < 2 ^ 31 ⌝ }
-    ensures { λ r. ⌜ r ≡ innerEntry child made stamp ⌝ }
+    ensures { λ r. ⌜ r ≡ innerEntry child b until stamp ⌝ }
 {
-    let x = made.x;
-    let y = made.y;
+    let x = b[0];
+    let y = b[1];
     [
         number(child),
         x[0],
@@ -62,7 +51,7 @@ pub fn inner_entry(child: usize, made: Worked, stamp: i32) -> Entry
         y[1],
         y[2],
         y[3],
-        made.until,
+        until,
         stamp,
     ]
 }

@@ -1,8 +1,8 @@
 -- What a pass over a node of the table needs: that the node lies in it, and that there is room for marks and keys.
 use mathlib.Core.Path.{_≡_, refl, ap, _∙_}
-use mathlib.Core.Bool.{Bool, false, not}
+use mathlib.Core.Bool.{Bool, true, false, not}
 use mathlib.Core.List.{List, [], _∷_}
-use Prim.Native.Nat.{ℕ, _+_, _≤_, _<_}
+use Prim.Native.Nat.{ℕ, _+_, _-_, _≤_, _<_}
 use native.Mathlib.Decide.{ℕ-discrete}
 use native.Mathlib.Omega.{arith}
 use lib.IntN.{ℤ}
@@ -15,8 +15,9 @@ use Rattle.node.specs.EntryLaws.{entries-next, length-entriesOf}
 use Rattle.table.specs.Header.{nodesFor, wordsFor, entriesAt}
 use Rattle.table.specs.Tree.{Nodes}
 use Rattle.table.specs.ScanParts.{node-below}
-use Rattle.table.specs.Scan.{Taken, Entered, Outcome}
-use Rattle.table.specs.declared.scan.Scan.the-variants.{Passed}
+use Rattle.table.specs.Scan.{Taken, Entered, Counted, Outcome, way-none, way-untaken, way-taken, way-unentered, way-entered-bad, way-entered}
+use Rattle.table.specs.declared.scan.Scan.{Scan}
+use Rattle.table.specs.declared.scan.Scan.the-variants.{Passed, Bad}
 
 pub record Ready (w : List ℤ) (cells node : ℕ) (marks keys : List ℕ) (m : ℕ) : Type 0 where
   pub few : cells ≤ 65536
@@ -81,3 +82,48 @@ next-entry w node k n c e f lt = rw (← e) (entries-next n k (omega arith))
 pub no-entry : (w : List ℤ) (node k : ℕ) (n : List ℤ) (c : ℕ) → n ≡ nodeAt w node → c ≡ countOf n → c ≤ k → drop k (entriesAt w node) ≡ []
 unfolding entriesAt
 no-entry w node k n c e f le = rw (← e) (drop-of-length-le (entriesOf n) {i = k} (omega (arith, length-entriesOf n)))
+
+-- ---- the loop over a node's entries: where the first k are passed, what a pass over those that are left comes to is what
+-- the pass over all of them comes to
+pub record Left (w : List ℤ) (cells : ℕ) (clock : ℤ) (h node : ℕ) (marks₀ keys₀ : List ℕ) (m₀ k : ℕ) (marks keys : List ℕ) (m : ℕ) : Type 0 where
+  pub ready : Ready w cells node marks keys m
+  pub marks-kept : length marks ≡ length marks₀
+  pub keys-kept : length keys ≡ length keys₀
+  pub rest : (r : Scan) (marks′ keys′ : List ℕ) → Outcome (entriesAt w) (Counted w) cells clock h (drop k (entriesAt w node)) marks keys m r marks′ keys′
+      → Outcome (entriesAt w) (Counted w) cells clock h (entriesAt w node) marks₀ keys₀ m₀ r marks′ keys′
+
+pub left-none : {w : List ℤ} {cells : ℕ} {clock : ℤ} {h node : ℕ} {marks keys : List ℕ} {m : ℕ} → Ready w cells node marks keys m → Left w cells clock h node marks keys m 0 marks keys m
+left-none y = record { ready = y; marks-kept = refl; keys-kept = refl; rest = λ r marks′ keys′ o. o }
+
+module _ {w : List ℤ} {cells : ℕ} {clock : ℤ} {h node : ℕ} {marks₀ keys₀ : List ℕ} {m₀ k : ℕ} {marks keys : List ℕ} {m : ℕ} (l : Left w cells clock h node marks₀ keys₀ m₀ k marks keys m) {n : List ℤ} {c : ℕ} (is : n ≡ nodeAt w node) (many : c ≡ countOf n) where
+  pub left-all : c ≤ k → Outcome (entriesAt w) (Counted w) cells clock h (entriesAt w node) marks₀ keys₀ m₀ (Passed m) marks keys
+  left-all le = l .rest _ _ _ (way-none h _ marks keys m (no-entry w node k n c is many le) (l .ready .low) (l .ready .room))
+
+  module _ (lt : k < c) {r : Bool} where
+    module _ (z : h ≡ 0) {keys₁ : List ℕ} (t : Taken cells (entryAt n k) keys m r keys₁) where
+      pub left-untaken : not r ≡ true → Outcome (entriesAt w) (Counted w) cells clock h (entriesAt w node) marks₀ keys₀ m₀ Bad marks keys₁
+      left-untaken f = l .rest _ _ _ (way-untaken h _ _ _ marks keys m _ _ z (next-entry w node k n c is many lt) t f)
+
+      pub left-taken : not r ≡ false → Left w cells clock h node marks₀ keys₀ m₀ (k + 1) marks keys₁ (m + 1)
+      left-taken f = record {
+        ready = ready-taken (l .ready) t f;
+        marks-kept = l .marks-kept;
+        keys-kept = ap length (t .taken (not-false f) .2) ∙ length-set keys m _ ∙ l .keys-kept;
+        rest = λ q marks′ keys′ o. l .rest q marks′ keys′ (way-taken h _ _ _ marks keys m _ _ q marks′ keys′ z (next-entry w node k n c is many lt) t f (l .ready .keys-long) o);
+      }
+
+    module _ (z : h ≡ 0 → ⊥) {marks₁ : List ℕ} (t : Entered (entriesAt w) (Counted w) cells clock (h - 1) (entryAt n k) marks r marks₁) where
+      pub left-unentered : not r ≡ true → Outcome (entriesAt w) (Counted w) cells clock h (entriesAt w node) marks₀ keys₀ m₀ Bad marks₁ keys
+      left-unentered f = l .rest _ _ _ (way-unentered h _ _ _ marks keys m _ _ z (next-entry w node k n c is many lt) t f)
+
+      module _ (f : not r ≡ false) {b : ℕ} (child : b ≡ childOf (entryAt n k)) {q : Scan} {marks₂ keys₂ : List ℕ} (o : Outcome (entriesAt w) (Counted w) cells clock (h - 1) (entriesAt w b) marks₁ keys m q marks₂ keys₂) where
+        pub left-bad : q ≡ Bad → Outcome (entriesAt w) (Counted w) cells clock h (entriesAt w node) marks₀ keys₀ m₀ Bad marks₂ keys₂
+        left-bad e = l .rest _ _ _ (way-entered-bad h _ _ _ marks keys m _ _ _ _ z (next-entry w node k n c is many lt) t f (child-marked (l .ready) t f) (rw (child, e) at o))
+
+        pub left-passed : {m₂ : ℕ} → q ≡ Passed m₂ → Left w cells clock h node marks₀ keys₀ m₀ (k + 1) marks₂ keys₂ m₂
+        left-passed {m₂} e = record {
+          ready = ready-passed (ready-entered (l .ready) t f child) (l .ready .node-in) (rw e at o);
+          marks-kept = o .marks-kept ∙ ap length (t .entered (not-false f) .3) ∙ length-set marks _ 1 ∙ l .marks-kept;
+          keys-kept = o .keys-kept ∙ l .keys-kept;
+          rest = λ s marks′ keys′ p. l .rest s marks′ keys′ (way-entered h _ _ _ marks keys m m₂ _ _ _ _ s marks′ keys′ z (next-entry w node k n c is many lt) t f (child-marked (l .ready) t f) (rw (child, e) at o) p);
+        }

@@ -14,7 +14,7 @@ use words::place;
 ghost use mathlib.Core.Path.{_≡_};
 ghost use Prim.Native.Nat.{ℕ, _+_, _*_, _/_, _≤_, _<_};
 ghost use lib.IntN.{pos};
-ghost use lib.ListN.{length, drop};
+ghost use lib.ListN.{length};
 ghost use lib.Signed.{_≤ℤ_};
 ghost use Rattle.whole.specs.Tells.{Tells};
 ghost use Rattle.whole.specs.Lists.{_∈_};
@@ -157,48 +157,50 @@ fn enter(
     true
 }
 
-// The pass over the entries of a node from entry k on, and over all beneath them. It marks the nodes met and gathers the
-// identifiers after the first m keys.
+// The pass over the entries of a node, and over all beneath them: for each inner entry it goes down to the child, which has
+// one level less beneath it. It marks the nodes met and gathers the identifiers after the first m keys.
 pub fn pass(
     t: &[i32],
     cells: usize,
     clock: i32,
     height: usize,
     node: usize,
-    k: usize,
     marks: &mut [u8],
     keys: &mut [u64],
     m: usize,
 ) -> Scan
     requires { ⌜ Ready (now t) cells node (now marks) (now keys) m ⌝ }
-    ensures { λ r. ⌜ Outcome (entriesAt (now (t .entry))) (Counted (now (t .entry))) cells clock height (drop k (entriesAt (now (t .entry)) node)) (now (marks .entry)) (now (keys .entry)) m r (now (marks .exit)) (now (keys .exit)) ⌝ }
+    ensures { λ r. ⌜ Outcome (entriesAt (now (t .entry))) (Counted (now (t .entry))) cells clock height (entriesAt (now (t .entry)) node) (now (marks .entry)) (now (keys .entry)) m r (now (marks .exit)) (now (keys .exit)) ⌝ }
 {
     let n = node_at(t, node);
-    if count(n) <= k {
-        return Scan::Passed(m);
-    }
-    if height == 0 {
-        if !take_cell(n, k, cells, &mut *keys, m) {
-            return Scan::Bad;
+    let mut k = 0;
+    let mut got = m;
+    while k < count(n) {
+        if height == 0 {
+            if !take_cell(n, k, cells, &mut *keys, got) {
+                return Scan::Bad;
+            }
+            got += 1;
+        } else {
+            if !enter(t, cells, clock, height - 1, n, k, &mut *marks) {
+                return Scan::Bad;
+            }
+            let below = child(n, k);
+            match pass(
+                t,
+                cells,
+                clock,
+                height - 1,
+                below,
+                &mut *marks,
+                &mut *keys,
+                got,
+            ) {
+                Scan::Bad => return Scan::Bad,
+                Scan::Passed(more) => got = more,
+            }
         }
-        return pass(t, cells, clock, height, node, k + 1, marks, keys, m + 1);
+        k += 1;
     }
-    if !enter(t, cells, clock, height - 1, n, k, &mut *marks) {
-        return Scan::Bad;
-    }
-    let below = child(n, k);
-    match pass(
-        t,
-        cells,
-        clock,
-        height - 1,
-        below,
-        0,
-        &mut *marks,
-        &mut *keys,
-        m,
-    ) {
-        Scan::Bad => Scan::Bad,
-        Scan::Passed(more) => pass(t, cells, clock, height, node, k + 1, marks, keys, more),
-    }
+    Scan::Passed(got)
 }

@@ -67,7 +67,6 @@ fn judged(t: &[i32], marks: &mut [u8], keys: &mut [u64]) -> bool
         word(t, 1),
         place_at(t, 3),
         root,
-        0,
         &mut *marks,
         &mut *keys,
         0,

@@ -15,6 +15,7 @@ use Rattle.node.specs.EntryLaws.{length-entriesOf}
 use Rattle.node.specs.ChangeAt.{Changed}
 use Rattle.node.specs.ChangeAtLaws.{put-changes}
 use Rattle.node.specs.Made.{workedOut, InRangeAt, innerEntry}
+use Rattle.node.specs.WorkedOut.{latestOf}
 use Rattle.node.specs.MadeLaws.{cells-in-range, stamped-in-range, child-inner, stamp-inner, inner-worked-out}
 use Rattle.table.specs.Header.{nodesFor, IsNode, entriesAt}
 use Rattle.table.specs.Tree.{Nodes, isLeaf, TreeSound}
@@ -22,7 +23,7 @@ use Rattle.table.specs.EdgesLaw.{edges-at}
 use Rattle.tree.specs.Regroup.{Afresh}
 
 unfoldable pub entryAbove : Nodes → Bool → ℤ → ℕ → Entry
-entryAbove N leaf minute child = innerEntry child (workedOut leaf minute (N child)) minute
+entryAbove N leaf minute child = innerEntry child (workedOut leaf minute (N child)) (latestOf leaf (N child)) minute
 
 -- node i has an entry k, and the child is a node of the table
 pub record CanRefresh (w : List ℤ) (i k child : ℕ) : Type 0 where
@@ -45,7 +46,7 @@ refresh-changes {w} {i} {k} c e whole = put-changes w i (c .in-table) k e (refre
 module _ (N : Nodes) (leaf : Bool) (minute : ℤ) (child : ℕ) where
   pub child-above : childOf (entryAbove N leaf minute child) ≡ child
   unfolding entryAbove natOf
-  child-above = ap natOf (child-inner child _ minute)
+  child-above = ap natOf (child-inner child _ _ minute)
 
 -- it looks at the entries of the child only
 pub above-same : (N N′ : Nodes) (leaf : Bool) (minute : ℤ) (child : ℕ) → N′ child ≡ N child → entryAbove N′ leaf minute child ≡ entryAbove N leaf minute child
@@ -66,11 +67,12 @@ is-node-at {cells} {n} low = record { from = record { le = le→leb 0 n (omega a
 pub above-afresh : (N : Nodes) (cells : ℕ) (clock : ℤ) (h child : ℕ) → IsMinute clock → child < nodesFor cells → 3 ≤ length (N child) → Afresh N cells clock h (entryAbove N (isLeaf h) clock child)
 unfolding entryAbove
 above-afresh N cells clock h child is low filled =
-    let made = workedOut (isLeaf h) clock (N child) in
+    let b = workedOut (isLeaf h) clock (N child) in
+    let until = latestOf (isLeaf h) (N child) in
     record {
-      child-in = rw (child-inner child made clock) (is-node-at low);
+      child-in = rw (child-inner child b until clock) (is-node-at low);
       filled = rw (child-above N (isLeaf h) clock child) filled;
       worked-out = rw (child-above N (isLeaf h) clock child) (inner-worked-out (isLeaf h) child clock (N child));
-      stamp-in = rw (stamp-inner child made clock) is;
-      stamped = stamp-inner child made clock;
+      stamp-in = rw (stamp-inner child b until clock) is;
+      stamped = stamp-inner child b until clock;
     }

@@ -1,6 +1,6 @@
-use mathlib.Core.Path.{_≡_}
+use mathlib.Core.List.{[]}
+use lib.ListN.{getD}
 use mir.Syntax.{w32}
-use mir.Val.{toZ, ofZ}
 use Rattle.whole.specs.Within.{back, read-at, word-back}
 use Rattle.words.specs.Words.{rowAt}
 use Rattle.node.specs.Made.{innerEntry}
@@ -8,62 +8,69 @@ use borrow.Author.Needs.{needs}
 use Rattle.node.proofs.made.inner_entry.Statement.{statement}
 use Rattle.node.proofs.made.inner_entry.Tie as tie
 
+array-copy-out-x : tie.Need-array-copy-out-x
+array-copy-out-x c = search needs
+
+array-copy-out-y : tie.Need-array-copy-out-y
+array-copy-out-y c = search needs
+
 number-requires : tie.Need-number-requires
 number-requires c κs = search needs
 
-array-copy-out-t9 : tie.Need-array-copy-out-t9
-array-copy-out-t9 c = search needs
+array-copy-out-t16 : tie.Need-array-copy-out-t16
+array-copy-out-t16 c = search needs
 
-array-copy-out-t12 : tie.Need-array-copy-out-t12
-array-copy-out-t12 c = search needs
+array-copy-out-t19 : tie.Need-array-copy-out-t19
+array-copy-out-t19 c = search needs
 
-array-copy-out-t15 : tie.Need-array-copy-out-t15
-array-copy-out-t15 c = search needs
+array-copy-out-t22 : tie.Need-array-copy-out-t22
+array-copy-out-t22 c = search needs
 
-array-copy-out-t18 : tie.Need-array-copy-out-t18
-array-copy-out-t18 c = search needs
+array-copy-out-t25 : tie.Need-array-copy-out-t25
+array-copy-out-t25 c = search needs
 
-array-copy-out-t21 : tie.Need-array-copy-out-t21
-array-copy-out-t21 c = search needs
+array-copy-out-t28 : tie.Need-array-copy-out-t28
+array-copy-out-t28 c = search needs
 
-array-copy-out-t24 : tie.Need-array-copy-out-t24
-array-copy-out-t24 c = search needs
+array-copy-out-t31 : tie.Need-array-copy-out-t31
+array-copy-out-t31 c = search needs
 
-array-copy-out-t27 : tie.Need-array-copy-out-t27
-array-copy-out-t27 c = search needs
+array-copy-out-t34 : tie.Need-array-copy-out-t34
+array-copy-out-t34 c = search needs
 
-array-copy-out-t30 : tie.Need-array-copy-out-t30
-array-copy-out-t30 c = search needs
+array-copy-out-t37 : tie.Need-array-copy-out-t37
+array-copy-out-t37 c = search needs
 
 returns : tie.Need-returns
 unfolding innerEntry rowAt
 returns c =
-    let t27 = c .before .before in
-    let t24 = t27 .before in
-    let t21 = t24 .before in
-    let t18 = t21 .before in
-    let t15 = t18 .before in
-    let t12 = t15 .before in
-    let t9 = t12 .before in
-    let n = t9 .before in
+    let t34 = c .before in
+    let t31 = t34 .before in
+    let t28 = t31 .before in
+    let t25 = t28 .before in
+    let t22 = t25 .before in
+    let t19 = t22 .before in
+    let t16 = t19 .before in
+    let n = t16 .before in
     let s = n .before .before .before in
-    let x = s .args .made .x in
-    let y = s .args .made .y in
-    let until : toZ w32 (ofZ w32 (s .args .made .until)) ≡ s .args .made .until = back (record { sfits = s .good .1 .0 .1 .1 .1 .1 .0 .1 }) in
-    simp (word-back (n .number .result) (n .number .ok), read-at w32 x 0 (t9 .t9 .given), read-at w32 x 1 (t12 .t12 .given), read-at w32 x 2 (t15 .t15 .given), read-at w32 x 3 (t18 .t18 .given), read-at w32 y 0 (t21 .t21 .given), read-at w32 y 1 (t24 .t24 .given), read-at w32 y 2 (t27 .t27 .given), read-at w32 y 3 (c .before .t30 .given), until, back (s .fits .stamp))
+    let x = getD (s .args .t2) 0 [] in
+    let y = getD (s .args .t2) 1 [] in
+    simp (word-back (n .number .result) (n .number .ok), read-at w32 x 0 (t16 .t16 .given), read-at w32 x 1 (t19 .t19 .given), read-at w32 x 2 (t22 .t22 .given), read-at w32 x 3 (t25 .t25 .given), read-at w32 y 0 (t28 .t28 .given), read-at w32 y 1 (t31 .t31 .given), read-at w32 y 2 (t34 .t34 .given), read-at w32 y 3 (c .t37 .given), back (s .fits .until), back (s .fits .stamp))
     (rw (n .number .ensures))
 
 pub inner-entry-spec : {M : Type 1} → statement M
 inner-entry-spec =
     tie.close
     (tie.spec
+    array-copy-out-x
+    array-copy-out-y
     number-requires
-    array-copy-out-t9
-    array-copy-out-t12
-    array-copy-out-t15
-    array-copy-out-t18
-    array-copy-out-t21
-    array-copy-out-t24
-    array-copy-out-t27
-    array-copy-out-t30
+    array-copy-out-t16
+    array-copy-out-t19
+    array-copy-out-t22
+    array-copy-out-t25
+    array-copy-out-t28
+    array-copy-out-t31
+    array-copy-out-t34
+    array-copy-out-t37
     returns)

@@ -1,5 +1,5 @@
 use mathlib.Core.Path.{_≡_}
-use Rattle.whole.specs.Within.{back, word-back}
+use Rattle.whole.specs.Within.{back}
 use Rattle.node.specs.Entry.{entriesOf}
 use Rattle.node.specs.WorkedOut.{hullOn}
 use Rattle.node.specs.Made.{workedOut}
@@ -31,16 +31,11 @@ narrow-row-requires-2 c κs =
     let s = c .before .before .before in
     rw (y-is c) (hullOn-kept (s .args .leaf) 1 (entriesOf (s .args .child .now)) (s .pre .0) (λ e m. s .pre .1 e m .y-in))
 
-latest-requires : tie.Need-latest-requires
-latest-requires c κs = search needs
-
 returns : tie.Need-returns
 unfolding workedOut
 returns c =
-    let y = c .before in
-    let x = y .before .before in
-    simp (word-back (c .latest .result) (c .latest .ok))
-    (rw (x .narrow-row .ensures, y .narrow-row2 .ensures, x-is (x .before), y-is (y .before), c .latest .ensures))
+    let x = c .before .before in
+    rw (x .narrow-row .ensures, c .narrow-row2 .ensures, x-is (x .before), y-is (c .before))
 
 pub work-out-spec : {M : Type 1} → statement M
 work-out-spec =
@@ -50,5 +45,4 @@ work-out-spec =
     narrow-row-requires
     worked-row-requires-2
     narrow-row-requires-2
-    latest-requires
     returns)

@@ -27,10 +27,10 @@ height-is : (c : tie.After-place-at3) → c .place-at3 .result ≡ height (c .be
 height-is c = c .place-at3 .ensures .0
 
 outcome : (c : tie.After-pass) → let s = c .before .before .before .before .before .before .before .before .before .args in let w = s .t .now in
-    Outcome (entriesAt w) (Counted w) (capacity w) (clock w) (height w) (entriesAt w (root w)) (set (s .marks .now) (root w) 1) (s .keys .now) 0 (c .pass .result) (c .pass .last .1 .1 .1 .1 .1 .1 .0) (c .pass .last .1 .1 .1 .1 .1 .1 .1 .0)
+    Outcome (entriesAt w) (Counted w) (capacity w) (clock w) (height w) (entriesAt w (root w)) (set (s .marks .now) (root w) 1) (s .keys .now) 0 (c .pass .result) (c .pass .last .1 .1 .1 .1 .1 .0) (c .pass .last .1 .1 .1 .1 .1 .1 .0)
 outcome c = simp (clock-is (c .before .before .before .before), cells-are (c .before .before .before .before .before .before), root-is (c .before .before .before .before .before), height-is (c .before .before .before)) at (c .pass .ensures)
 
-marks-kept : (c : tie.After-pass) → length (c .pass .last .1 .1 .1 .1 .1 .1 .0) ≡ length (c .before .before .before .before .before .before .before .before .before .args .marks .now)
+marks-kept : (c : tie.After-pass) → length (c .pass .last .1 .1 .1 .1 .1 .0) ≡ length (c .before .before .before .before .before .before .before .before .before .args .marks .now)
 marks-kept c = outcome c .marks-kept ∙ length-set (c .before .before .before .before .before .before .before .before .before .args .marks .now) (root (c .before .before .before .before .before .before .before .before .before .args .t .now)) 1
 
 marked : (s : tie.Start) → RootMarked (s .args .t .now) (set (s .args .marks .now) (root (s .args .t .now)) 1)
@@ -38,10 +38,10 @@ marked s = root-marked (s .pre .0) (s .pre .2)
 
 passed : (c : tie.After-m) → let s = c .before .before .before .before .before .before .before .before .before .before .before .before .before .before .before .args in let w = s .t .now in
     Passes (entriesAt w) (Counted w) (capacity w) (clock w) (height w) (entriesAt w (root w)) (set (s .marks .now) (root w) 1) 0
-    × Leaves (entriesAt w) (height w) (entriesAt w (root w)) (set (s .marks .now) (root w) 1) (s .keys .now) 0 (c .m .given .0 .0) (c .before .before .before .before .before .before .pass .last .1 .1 .1 .1 .1 .1 .0) (c .before .before .before .before .before .before .pass .last .1 .1 .1 .1 .1 .1 .1 .0)
+    × Leaves (entriesAt w) (height w) (entriesAt w (root w)) (set (s .marks .now) (root w) 1) (s .keys .now) 0 (c .m .given .0 .0) (c .before .before .before .before .before .before .pass .last .1 .1 .1 .1 .1 .0) (c .before .before .before .before .before .before .pass .last .1 .1 .1 .1 .1 .1 .0)
 passed c = outcome (c .before .before .before .before .before .before) .pass (c .m .given .0 .0) (c .m .given .1)
 
-m-fits : (c : tie.After-m) → c .m .given .0 .0 ≤ length (c .before .before .before .before .before .before .pass .last .1 .1 .1 .1 .1 .1 .1 .0)
+m-fits : (c : tie.After-m) → c .m .given .0 .0 ≤ length (c .before .before .before .before .before .before .pass .last .1 .1 .1 .1 .1 .1 .0)
 m-fits c =
     let s = c .before .before .before .before .before .before .before .before .before .before .before .before .before .before .before in
     let p = passed c in

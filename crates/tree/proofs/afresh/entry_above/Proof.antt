@@ -1,8 +1,4 @@
-use mir.Syntax.{w32}
-use mir.Val.{toZ, ofZ}
-use mathlib.Core.Path.{ap, _∙_}
-use Rattle.whole.specs.Within.{back}
-use Rattle.node.specs.Made.{innerEntry}
+use Rattle.whole.specs.Within.{back, word-back}
 use Rattle.table.specs.Header.{entriesAt}
 use Rattle.tree.specs.EntryAfresh.{entryAbove}
 use borrow.Author.Needs.{needs}
@@ -16,15 +12,21 @@ work-out-requires : tie.Need-work-out-requires
 unfolding entriesAt
 work-out-requires c κs = rw (back (c .before .fits .minute), c .node-at .ensures) (c .before .pre .2, c .before .pre .3)
 
+latest-requires : tie.Need-latest-requires
+latest-requires c κs = search needs
+
 inner-entry-requires : tie.Need-inner-entry-requires
 inner-entry-requires c κs = search needs
 
 returns : tie.Need-returns
 unfolding entryAbove entriesAt
 returns c =
-    let s = c .before .before .before in
-    rw (← c .before .before .node-at .ensures, ← back (s .fits .minute)) (c .inner-entry .ensures ∙ ap (λ made. innerEntry (s .args .child) made (toZ w32 (ofZ w32 (s .args .minute)))) (c .before .work-out .ensures))
+    let l = c .before in
+    let w = l .before in
+    let s = w .before .before in
+    let made = simp (word-back (l .latest .result) (l .latest .ok), back (s .fits .minute)) at (c .inner-entry .ensures) in
+    rw (← w .before .node-at .ensures, made, simp (back (s .fits .minute)) at (w .work-out .ensures), l .latest .ensures)
 
 pub entry-above-spec : {M : Type 1} → statement M
 entry-above-spec =
-    tie.close (tie.spec node-at-requires work-out-requires inner-entry-requires returns)
+    tie.close (tie.spec node-at-requires work-out-requires latest-requires inner-entry-requires returns)
