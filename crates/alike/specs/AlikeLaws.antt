@@ -200,7 +200,7 @@ step-alike a s t same = record {
   sound′ = t .sound;
   capacity-is = s .capacity-is ∙ a .capacity-is ∙ sym (t .capacity-is);
   clock-is = s .clock-is ∙ sym (t .clock-is);
-  live = λ c. (λ l. t .live c .1 (same c .0 (s .live c .0 l)), λ l. s .live c .1 (same c .1 (t .live c .0 l)));
+  live = λ c. (λ l. t .live c (same c .0 (s .holds c (l .is-held))), λ l. s .live c (same c .1 (t .holds c (l .is-held))));
 }
 
 module _ {w v : List ℤ} (a : Alike w v) (id minute : ℤ) where
@@ -274,18 +274,18 @@ module _ {w u x u′ x′ : List ℤ} {minute : ℤ} {k l : Cell} (other : k .id
   -- what is live after the other report stays when this one comes
   then-stays : {c : Cell} → Left w minute l c → (c .id ≡ k .id → ⊥) → Live x′ c
   then-stays {c} left differs =
-      let live = s′ .live c .1 left in
-      t′ .live c .1 (inr (record { is-held = live .is-held; lives = rw (s′ .clock-is) at (live .in-life); other = differs }))
+      let live = s′ .live c left in
+      t′ .live c (inr (record { is-held = live .is-held; lives = rw (s′ .clock-is) at (live .in-life); other = differs }))
 
   one-way : (c : Cell) → Live x c → Live x′ c
-  one-way c live = by (t .live c .0 live)
+  one-way c live = by (t .holds c (live .is-held))
     where
       by : Left u minute l c → Live x′ c
       by (inl e) = then-stays (inl e) (λ f. other (sym f ∙ ap (λ (d : Cell). d .id) e))
-      by (inr stays) = before (s .live c .0 (record { is-held = stays .is-held; in-life = rw (s .clock-is) (stays .lives) }))
+      by (inr stays) = before (s .holds c (stays .is-held))
         where
           before : Left w minute k c → Live x′ c
-          before (inl e) = t′ .live c .1 (inl e)
+          before (inl e) = t′ .live c (inl e)
           before (inr h) = then-stays (inr (record { is-held = h .is-held; lives = h .lives; other = stays .other })) (h .other)
 
 places-changed : {w u x u′ x′ : List ℤ} {minute : ℤ} {k l : Cell} → (k .id ≡ l .id → ⊥) → Step w u minute (Left w minute k) → Step u x minute (Left u minute l)

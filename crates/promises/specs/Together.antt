@@ -56,8 +56,8 @@ module _ {m : Model} {w : List ℤ} (t : Together m w) {minute id : ℤ} (late :
     sound = s .sound;
     clock-is = s .clock-is;
     live = λ c. (
-      λ l. record { is-left = stays-left c (s .live c .0 l); in-life = rw (s .clock-is) at (l .in-life) },
-      λ l. s .live c .1 (left-stays c (l .in-life) (l .is-left)),
+      λ l. record { is-left = stays-left c (s .holds c (l .is-held)); in-life = rw (s .clock-is) at (l .in-life) },
+      λ l. s .live c (left-stays c (l .in-life) (l .is-left)),
     );
   }
 
@@ -66,8 +66,8 @@ module _ {m : Model} {w : List ℤ} (t : Together m w) {minute id : ℤ} (late :
     sound = s .sound;
     clock-is = s .clock-is;
     live = λ c. (
-      λ l. record { is-left = ⊎-elim (λ e. List·Memᴰ·head e) (λ y. List·Memᴰ·tail (stays-left c y)) (s .live c .0 l); in-life = rw (s .clock-is) at (l .in-life) },
-      λ l. s .live c .1 (⊎-elim (λ e. inl e) (λ n. inr (left-stays c (l .in-life) n)) (List·Memᴰ·cases-cons (l .is-left))),
+      λ l. record { is-left = ⊎-elim (λ e. List·Memᴰ·head e) (λ y. List·Memᴰ·tail (stays-left c y)) (s .holds c (l .is-held)); in-life = rw (s .clock-is) at (l .in-life) },
+      λ l. s .live c (⊎-elim (λ e. inl e) (λ n. inr (left-stays c (l .in-life) n)) (List·Memᴰ·cases-cons (l .is-left))),
     );
   }
 

@@ -1,4 +1,5 @@
--- The inner entries of a tree, and a test that all of them pass: it is kept by a change whose new entries pass it.
+-- The inner entries of a tree that a call changes: each is stamped at the call's minute, or stood there at the start with all beneath it as it was.
+-- A change keeps this where the entries that it makes are stamped.
 use mathlib.Core.Path.{_≡_, sym, _∙_, subst}
 use mathlib.Core.Logic.{_⊎_, inl, inr}
 use mathlib.Core.List.{List}
@@ -27,7 +28,7 @@ fine-frame S N N′ h e same (inl s) = inl s
 fine-frame S N N′ h e same (inr k) =
     inr (k .0, λ j n. same j (subst (λ (js : List ℕ). j ∈ js) (sym (nodes-frame (S .nodes) N h (childOf e) (k .1))) n) ∙ k .1 j n)
 
--- every inner entry that is reached from node i, which has h levels beneath it, passes the test
+-- every inner entry that is reached from node i, which has h levels beneath it, is fine
 unfoldable pub AllInner : Start → Nodes → ℕ → ℕ → Type 0
 AllInner S N zero i = Unit {0}
 AllInner S N (suc h) i = (e : Entry) → e ∈ N i → Fine S N h e × AllInner S N h (childOf e)
@@ -37,7 +38,7 @@ unfoldable pub InnerIn : Start → Nodes → ℕ → List Entry → Type 0
 InnerIn S N zero es = Unit {0}
 InnerIn S N (suc h) es = (e : Entry) → e ∈ es → Fine S N h e × AllInner S N h (childOf e)
 
--- what a change below node i does to the inner entries: those that are not stamped at the clock stood there before
+-- what a change at the clock below node i does to the inner entries: if all were fine before, from whatever start, all are fine after it
 abbrev pub Renews : ℤ → Nodes → ℕ → ℕ → Nodes → ℕ → ℕ → Type 0
 Renews clock N h i N′ h′ i′ = (S : Start) → S .minute ≡ clock → AllInner S N h i → AllInner S N′ h′ i′
 

@@ -34,6 +34,7 @@ pub mod Settle
 pub mod Clear
 pub mod Staying
 pub mod Steps
+pub mod StepsLaws
 pub mod StayingLaws
 pub mod Renewed
 pub mod SoundWhole

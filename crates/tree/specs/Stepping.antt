@@ -161,10 +161,7 @@ module _ {w v : List ℤ} {minute id : ℤ} (s : Sound w) (c : Cleared w minute 
         sound = sound-at-last s h stood set-clock fewer still-once;
         capacity-is = stands-at-last s h stood set-clock fewer still-once .same-capacity;
         clock-is = set-clock .clock-is;
-        live = λ d. (
-          λ l. let f = Memᴰ·of-map cellOf (leaves v) (rw is at (l .is-held)) in subst (Stays w minute id) (f .2) (left-stays (f .0) (f .1)),
-          λ t. record { is-held = rw is (stays-left d t); in-life = rw (set-clock .clock-is) (t .lives) },
-        );
+        live = λ d t. record { is-held = rw is (stays-left d t); in-life = rw (set-clock .clock-is) (t .lives) };
         holds = λ d m. let f = Memᴰ·of-map cellOf (leaves v) (rw is at m) in subst (Stays w minute id) (f .2) (left-stays (f .0) (f .1));
         afresh-or-kept = entries-at-last s h stood set-clock fewer still-once (c .clearing .renews);
         as-long = stands-at-last s h stood set-clock fewer still-once .same-length;
@@ -200,10 +197,7 @@ module _ {w v : List ℤ} {minute id : ℤ} (s : Sound w) (c : Cleared w minute 
           sound = sound-at-last s h stood-put set-clock fewer-put once-put;
           capacity-is = stands-at-last s h stood-put set-clock fewer-put once-put .same-capacity;
           clock-is = set-clock .clock-is;
-          live = λ d. (
-            λ l. let f = Memᴰ·of-map cellOf (leaves u) (rw is at (l .is-held)) in subst Now (f .2) (now-left (f .0) (f .1)),
-            λ n. record { is-held = rw is (left-now d n); in-life = rw (set-clock .clock-is) (lives-now d n) },
-          );
+          live = λ d n. record { is-held = rw is (left-now d n); in-life = rw (set-clock .clock-is) (lives-now d n) };
           holds = λ d m. let f = Memᴰ·of-map cellOf (leaves u) (rw is at m) in subst Now (f .2) (now-left (f .0) (f .1));
           afresh-or-kept = entries-at-last s h stood-put set-clock fewer-put once-put (λ S new all. p .renews S new (c .clearing .renews S new all));
           as-long = stands-at-last s h stood-put set-clock fewer-put once-put .same-length;

@@ -1,6 +1,6 @@
 -- What a report and a drop answer, and the table that they leave.
 use mathlib.Core.Path.{_≡_}
-use mathlib.Core.Logic.{_⊎_, _↔_}
+use mathlib.Core.Logic.{_⊎_}
 use mathlib.Core.List.{List, [], _∷_, _++_, map, flatMap}
 use Prim.Native.Nat.{ℕ, zero, suc}
 use lib.IntN.{ℤ}
@@ -40,7 +40,7 @@ innersOf N (suc h) i = map (innerAt h) (N i) ++ flatMap (λ e. innersOf N h (chi
 abbrev pub inners : List ℤ → List InnerEntry
 inners w = innersOf (entriesAt w) (height w) (root w)
 
--- every node beneath the entry has the entries that it had
+-- every node beneath the entry, its child first, has the entries that it had
 abbrev pub SameBelow : List ℤ → List ℤ → InnerEntry → Type 0
 SameBelow w w′ e = (j : ℕ) → j ∈ nodesOf (entriesAt w) (e .levels) (childOf (e .entry)) → entriesAt w′ j ≡ entriesAt w j
 
@@ -64,15 +64,15 @@ pub record NoRoom (w : List ℤ) (minute id : ℤ) : Type 0 where
   pub each : (c : Cell) → c ∈ others → Stays w minute id c
   pub full : length others ≡ capacity w
 
--- an accepted call at the minute makes of the table w the table w′, in which the cells are live that are `Left`
+-- an accepted call at the minute makes of the table w the table w′, in which the cells that are `Left` are live
 pub record Step (w w′ : List ℤ) (minute : ℤ) (Left : Cell → Type 0) : Type 0 where
   pub sound : Sound w′
   pub capacity-is : capacityWord w′ ≡ capacityWord w
   pub clock-is : clock w′ ≡ minute
-  pub live : (c : Cell) → Live w′ c ↔ Left c
-  -- no other cell is held
+  pub live : (c : Cell) → Left c → Live w′ c
+  -- and no other cell is held
   pub holds : (c : Cell) → c ∈ held w′ → Left c
-  -- an inner entry was worked out at the minute, or it stood there before with all its words and nothing beneath it has changed
+  -- an inner entry was worked out at the minute, or it stood there before, at its level and with all its words, and nothing beneath it has changed
   pub afresh-or-kept : (e : InnerEntry) → e ∈ inners w′ → (stampOf (e .entry) ≡ minute) ⊎ ((e ∈ inners w) × SameBelow w w′ e)
   pub as-long : length w′ ≡ length w
   pub rest-kept : drop (wordsFor (capacity w)) w′ ≡ drop (wordsFor (capacity w)) w
