@@ -3,9 +3,8 @@ use mathlib.Core.Path.{_≡_, refl, sym, ap, _∙_, subst}
 use mathlib.Core.Logic.{_⊎_, inl, inr}
 use mathlib.Core.List.{List, [], _∷_, map, List·Memᴰ·cases-cons, List·Memᴰ·not-nil, Memᴰ·map}
 use lib.IntN.{ℤ}
-use lib.Signed.{≤ℤ-refl}
 use Rattle.whole.specs.Lists.{_∈_, NoRepeat, no-repeat-head, no-repeat-tail}
-use Rattle.whole.specs.Order.{≤ℤ-antisym, ≤ℤ-stable}
+use Rattle.whole.specs.Order.{≤ℤ-antisym, ≡ℤ-stable}
 use Rattle.track.specs.Life.{identifier}
 use Rattle.track.specs.declared.cell.Cell.{Cell}
 use Rattle.table.specs.Sound.{Sound, Live}
@@ -44,14 +43,11 @@ next-same s {c} {d} n m = live-same s (n .is-one) (m .is-one) (≤ℤ-antisym (c
 
 -- and of any words. A step that gives a cell was not over words that are no sound table, so soundness cannot be denied;
 -- and what cannot be denied of two numbers, that they are equal, holds
-same-stable : (a b : ℤ) → ((a ≡ b → ⊥) → ⊥) → a ≡ b
-same-stable a b f = ≤ℤ-antisym a b (≤ℤ-stable (λ n. f (λ e. n (rw e (≤ℤ-refl b))))) (≤ℤ-stable (λ n. f (λ e. n (rw e (≤ℤ-refl b)))))
-
 cell-stable : (c d : Cell) → ((c ≡ d → ⊥) → ⊥) → c ≡ d
 cell-stable c d f = all (on (λ x. x .id)) (on (λ x. x .x)) (on (λ x. x .vx)) (on (λ x. x .y)) (on (λ x. x .vy)) (on (λ x. x .expiry .at))
   where
     on : (g : Cell → ℤ) → g c ≡ g d
-    on g = same-stable (g c) (g d) (λ n. f (λ e. n (ap g e)))
+    on g = ≡ℤ-stable (λ n. f (λ e. n (ap g e)))
 
     all : c .id ≡ d .id → c .x ≡ d .x → c .vx ≡ d .vx → c .y ≡ d .y → c .vy ≡ d .vy → c .expiry .at ≡ d .expiry .at → c ≡ d
     all e0 e1 e2 e3 e4 e5 i = record { id = e0 i; x = e1 i; vx = e2 i; y = e3 i; vy = e4 i; expiry = record { at = e5 i } }

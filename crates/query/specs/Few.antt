@@ -9,6 +9,7 @@ use lib.IntN.{ℤ}
 use lib.ListN.{length, length-map}
 use Rattle.whole.specs.Lists.{_∈_, no-repeat-fits}
 use Rattle.whole.specs.Rising.{<ℤ-no-repeat}
+use Rattle.whole.specs.Tells.{dec-stable}
 use Rattle.track.specs.Life.{identifier}
 use Rattle.track.specs.Refusals.{First}
 use Rattle.track.specs.declared.query.Query.{Query}
@@ -52,11 +53,7 @@ module _ {w : List ℤ} (s : Sound w) where
 
 -- an order of numbers that cannot be denied holds
 ≤-stable : {m n : ℕ} → ((m ≤ n → ⊥) → ⊥) → m ≤ n
-≤-stable {m} {n} f = by (decLe m n)
-  where
-    by : Dec (m ≤ n) → m ≤ n
-    by (yes h) = h
-    by (no h) = absurd (f h)
+≤-stable {m} {n} = dec-stable (decLe m n)
 
 module _ {w : List ℤ} {Backward : Type 0} {k : Query} {list : List ℤ} where
   -- an answer other than 1 is of a sound table

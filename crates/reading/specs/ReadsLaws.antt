@@ -6,9 +6,11 @@ use Prim.Native.Nat.{ℕ, _≤_}
 use native.Mathlib.Omega.{arith}
 use lib.IntN.{ℤ}
 use lib.ListN.{length}
+use Rattle.whole.specs.Order.{≤ℤ-stable}
 use Rattle.words.specs.Words.{natOf}
-use Rattle.track.specs.Refusals.{First, first-fixed, refused-not-zero, number-fixes}
+use Rattle.track.specs.Refusals.{First, first-fixed, none-holds, not-zero, refused-not-zero, number-fixes}
 use Rattle.table.specs.Header.{IsCapacity, wordsFor}
+use Rattle.sheet.specs.Accepted.{header-stable, records-stable}
 use Rattle.sheet.specs.Sheet.{mostCells, countOf, cellsOf}
 use Rattle.sheet.specs.WellFormed.{RecordsSound, SheetSound}
 use Rattle.table.specs.Fresh.{freshReasons, IsFresh, MakesFresh}
@@ -39,8 +41,16 @@ can-accept c =
 pub read-done : {cells : ℤ} {w : List ℤ} {bytes : List ℕ} {r : Outcome} {v : List ℤ} → CanRead cells w bytes → ReadsSheet cells w bytes r v → outcomeNumber r ≡ 0
 read-done {cells} {w} {bytes} {r} can p = first-fixed (readReasons cells w bytes) (outcomeNumber r) 0 (p .refusal) (can-accept can)
 
-pub read-accepted : {cells : ℤ} {w : List ℤ} {bytes : List ℕ} {r : Outcome} {v : List ℤ} → CanRead cells w bytes → ReadsSheet cells w bytes r v → IsRead cells w bytes v
-read-accepted can p = p .accepted (read-done can p)
+-- and what is accepted may be read
+pub accepted-can : {cells : ℤ} {w : List ℤ} {bytes : List ℕ} {r : Outcome} {v : List ℤ} → ReadsSheet cells w bytes r v → outcomeNumber r ≡ 0 → CanRead cells w bytes
+accepted-can {cells} {w} {bytes} {r} p e =
+    let none = none-holds (readReasons cells w bytes) (outcomeNumber r) (not-zero 1, (not-zero 2, (not-zero 10, (not-zero 8, (not-zero 11, tt))))) (p .refusal) e in
+    record {
+      capacity-in = record { from = ≤ℤ-stable (λ n. none .0 (λ c. n (c .from))); to = ≤ℤ-stable (λ n. none .0 (λ c. n (c .to))) };
+      long-enough = omega (arith, none .1 .0);
+      well-formed = record { header = header-stable (none .1 .1 .0); records = records-stable (none .1 .1 .1 .1 .0) };
+      few = omega (arith, none .1 .1 .1 .0);
+    }
 
 -- ---- the ways through the reading
 pub reads-refused : {cells : ℤ} {w : List ℤ} {bytes : List ℕ} {r : Outcome} {why : Refusal} → Judges cells w bytes r → r ≡ Refused why → ReadsSheet cells w bytes r w

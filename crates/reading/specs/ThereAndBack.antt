@@ -14,7 +14,6 @@ use Rattle.sheet.specs.Bytes.{AreBytes}
 use Rattle.sheet.specs.Sheet.{mostCells, totalFor, sheetOf, countOf, cellsOf}
 use Rattle.sheet.specs.SheetLaws.{sheet-back, length-is, length-cellsFrom}
 use Rattle.sheet.specs.WellFormed.{SheetSound}
-use Rattle.leafing.specs.Leafed.{LiveCells}
 use Rattle.leafing.specs.LiveCellsLaws.{live-same-list}
 use Rattle.writing.specs.Written.{writtenNumber, writtenTotal, Writes, WritesSheet}
 use Rattle.writing.specs.WrittenLaws.{write-accepted}
@@ -22,7 +21,7 @@ use Rattle.writing.specs.declared.Written.{Written}
 use Rattle.writing.specs.SheetWritten.{written-sheet}
 use Rattle.reading.specs.Reads.{IsRead, ReadsSheet}
 use Rattle.tree.specs.Steps.{outcomeNumber}
-use Rattle.reading.specs.ReadsLaws.{CanRead, read-done, read-accepted, read-live}
+use Rattle.reading.specs.ReadsLaws.{CanRead, read-done, accepted-can, read-live}
 use Rattle.tree.specs.declared.outcome.Outcome.{Outcome}
 
 -- ---- a well-formed sheet that was read is written as it was, in the first bytes of any buffer that is long enough
@@ -41,14 +40,14 @@ module _ {w : List ℤ} (sound : Sound w) {buffer : List ℕ} {total : ℕ} {buf
   sheet = take total buffer′
 
   -- it is not refused
-  pub written-can-read : {cells : ℤ} {t : List ℤ} → IsCapacity cells → wordsFor (natOf cells) ≤ length t → length (p .cells) ≤ natOf cells → CanRead cells t sheet
-  written-can-read {cells} capacity long few =
+  pub written-can-read : {cells : ℤ} {t : List ℤ} → IsCapacity cells → wordsFor (natOf cells) ≤ length t → total ≤ totalFor (natOf cells) → CanRead cells t sheet
+  written-can-read {cells} capacity long room =
       let same = live-same-list (λ c. (λ x. x, λ x. x)) (written-sheet sound p .live) (p .live) in
       record {
         capacity-in = capacity;
         long-enough = long;
         well-formed = written-sheet sound p .well-formed;
-        few = omega (arith, ap length same, length-cellsFrom sheet 0 (countOf sheet));
+        few = omega (arith, ap length same, length-cellsFrom sheet 0 (countOf sheet), p .total-is);
       }
 
   pub written-then-read : {cells : ℤ} {t v : List ℤ} → IsRead cells t sheet v → (clock v ≡ clock w) × ((c : Cell) → Live v c ↔ Live w c)
@@ -57,26 +56,26 @@ module _ {w : List ℤ} (sound : Sound w) {buffer : List ℕ} {total : ℕ} {buf
       let back = read-live (there .well-formed .records) read in
       (read .clock-is ∙ there .clock-is, λ c. (λ l. there .live .only c (back .all c l), λ l. back .only c (there .live .all c l)))
 
--- ---- the same of the calls, which then refuse nothing
--- a sheet read, and written again into a buffer that is as long or longer
+-- ---- the same of the calls
+-- an accepted sheet is written again into any buffer that is as long or longer: its own bytes, and no others
 pub sheet-back-again : {cells : ℤ} {w : List ℤ} {bytes : List ℕ} {r : Outcome} {v : List ℤ} {buffer : List ℕ} {s : Written} {buffer′ : List ℕ} → AreBytes bytes
-    → CanRead cells w bytes → ReadsSheet cells w bytes r v → length bytes ≤ length buffer → WritesSheet v buffer s buffer′
+    → ReadsSheet cells w bytes r v → outcomeNumber r ≡ 0 → length bytes ≤ length buffer → WritesSheet v buffer s buffer′
     → (writtenNumber s ≡ 0) × (writtenTotal s ≡ length bytes) × (buffer′ ≡ bytes ++ drop (length bytes) buffer)
-sheet-back-again {bytes} {buffer} small can read room p =
-    let is = read-accepted can read in
-    let live = read-live (can .well-formed .records) is in
+sheet-back-again {bytes} {buffer} small read accepted room p =
+    let is = read .accepted accepted in
+    let sheet = accepted-can read accepted .well-formed in
+    let live = read-live (sheet .records) is in
     let many = length-cellsFrom bytes 0 (countOf bytes) in
-    let done = write-accepted (is .sound) live (omega (arith, many, length-is bytes small mostCells (can .well-formed .header))) p in
-    let back = read-then-written small (can .well-formed) is (p .accepted done) in
+    let done = write-accepted (is .sound) live (omega (arith, many, length-is bytes small mostCells (sheet .header))) p in
+    let back = read-then-written small sheet is (p .accepted done) in
     (done, back .0, back .1)
 
--- a sound table written into a buffer with room for its live cells, and what was written read into words for as many or more
-pub table-back-again : {w : List ℤ} {live : List Cell} {buffer : List ℕ} {s : Written} {buffer′ : List ℕ} {cells : ℤ} {t : List ℤ} {r : Outcome} {v : List ℤ} → Sound w → LiveCells w live
-    → totalFor (length live) ≤ length buffer → WritesSheet w buffer s buffer′ → IsCapacity cells → wordsFor (natOf cells) ≤ length t → length live ≤ natOf cells
+-- what was written of a sound table is read back into any words for a table whose sheet may be as long or longer
+pub table-back-again : {w : List ℤ} {buffer : List ℕ} {s : Written} {buffer′ : List ℕ} {cells : ℤ} {t : List ℤ} {r : Outcome} {v : List ℤ} → Sound w
+    → WritesSheet w buffer s buffer′ → writtenNumber s ≡ 0 → IsCapacity cells → wordsFor (natOf cells) ≤ length t → writtenTotal s ≤ totalFor (natOf cells)
     → ReadsSheet cells t (take (writtenTotal s) buffer′) r v → (outcomeNumber r ≡ 0) × (clock v ≡ clock w) × ((c : Cell) → Live v c ↔ Live w c)
-table-back-again {w} {live} {cells} sound is-live room p capacity long few read =
-    let a = p .accepted (write-accepted sound is-live room p) in
-    let same = live-same-list (λ c. (λ x. x, λ x. x)) (a .live) is-live in
-    let can = written-can-read sound a capacity long (omega (arith, ap length same)) in
-    let back = written-then-read sound a (read-accepted can read) in
-    (read-done can read, back .0, back .1)
+table-back-again sound p accepted capacity long room read =
+    let a = p .accepted accepted in
+    let done = read-done (written-can-read sound a capacity long room) read in
+    let back = written-then-read sound a (read .accepted done) in
+    (done, back .0, back .1)

@@ -1,4 +1,4 @@
--- What is accepted is in range: the cell of an accepted report, and an accepted query.
+-- What is accepted is in range: the cell of an accepted report, an accepted query, a cell of which no range can be denied.
 use mathlib.Core.Path.{_≡_, sym, subst}
 use lib.IntN.{ℤ}
 use Rattle.whole.specs.Order.{≤ℤ-stable}
@@ -8,6 +8,7 @@ use Rattle.track.specs.Refusals.{none-holds, not-zero}
 use Rattle.track.specs.Report.{ReportInRange, reportReasons, keptCell, reportNumber, reportCell, Reports}
 use Rattle.track.specs.Query.{EdgesInRange, QueryInRange, queryReasons, askedNumber, askedQuery, Asks}
 use Rattle.track.specs.Small.{CellInRange}
+use Rattle.track.specs.declared.cell.Cell.{Cell}
 use Rattle.track.specs.declared.cell.Reported.{Reported}
 use Rattle.track.specs.declared.query.Edges.{Edges}
 use Rattle.track.specs.declared.query.Query.{Query}
@@ -20,7 +21,7 @@ abbrev pub TakenInRange : Asked → Type 0
 TakenInRange a = askedNumber a ≡ 0 → QueryInRange (askedQuery a)
 
 -- ---- 4 says that a range is not kept; where it is not given no range can be denied, so each is kept
-minute-stable : {m : ℤ} → ((IsMinute m → ⊥) → ⊥) → IsMinute m
+pub minute-stable : {m : ℤ} → ((IsMinute m → ⊥) → ⊥) → IsMinute m
 minute-stable f = record { from = ≤ℤ-stable (λ n. f (λ h. n (h .from))); to = ≤ℤ-stable (λ n. f (λ h. n (h .to))) }
 
 identifier-stable : {id : ℤ} → ((IsIdentifier id → ⊥) → ⊥) → IsIdentifier id
@@ -34,6 +35,16 @@ report-stable f = record {
   vx-in = within-stable (λ n. f (λ h. n (h .vx-in)));
   vy-in = within-stable (λ n. f (λ h. n (h .vy-in)));
   minute-in = minute-stable (λ n. f (λ h. n (h .minute-in)));
+  expiry-in = minute-stable (λ n. f (λ h. n (h .expiry-in)));
+}
+
+pub cell-stable : {c : Cell} → ((CellInRange c → ⊥) → ⊥) → CellInRange c
+cell-stable f = record {
+  identifier = identifier-stable (λ n. f (λ h. n (h .identifier)));
+  x-in = within-stable (λ n. f (λ h. n (h .x-in)));
+  vx-in = within-stable (λ n. f (λ h. n (h .vx-in)));
+  y-in = within-stable (λ n. f (λ h. n (h .y-in)));
+  vy-in = within-stable (λ n. f (λ h. n (h .vy-in)));
   expiry-in = minute-stable (λ n. f (λ h. n (h .expiry-in)));
 }
 

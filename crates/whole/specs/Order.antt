@@ -4,10 +4,10 @@ use mathlib.Core.Logic.{_⊎_, inl, inr, ⊎-elim}
 use mathlib.Core.Bool.{Bool, true, false, not}
 use native.Mathlib.Omega.{arith}
 use lib.Dec.{T, lt→ltb, nleb→lt}
-use lib.IntN.{ℤ, pos, negsuc, negℤ, _+ℤ_, _-ℤ_, _*ℤ_, *ℤ-comm, +ℤ-assoc, +ℤ-comm, negℤ-+ℤ, negℤ-negℤ}
+use lib.IntN.{ℤ, pos, negsuc, negℤ, _+ℤ_, _-ℤ_, _*ℤ_, *ℤ-comm, +ℤ-assoc, +ℤ-comm, negℤ-+ℤ, negℤ-negℤ, ℤ-discrete}
 use lib.Signed.{_≤ℤ_, _<ℤ_, leZ, ltZ, leZ-yes, ltZ-yes, ltZ-no}
 use Rattle.whole.specs.Difference.{each, all2, all3, all4, difs, cross}
-use Rattle.whole.specs.Tells.{stable}
+use Rattle.whole.specs.Tells.{dec-stable, stable}
 
 -- ---- the ring
 pub *ℤ-assoc : (a b c : ℤ) → a *ℤ b *ℤ c ≡ a *ℤ (b *ℤ c)
@@ -79,9 +79,15 @@ ltZ-true e = ltZ-yes (subst T (sym e) tt)
 pub ltZ-false : {a b : ℤ} → ltZ a b ≡ false → b ≤ℤ a
 ltZ-false e = ltZ-no (subst (λ (t : Bool). T (not t)) (sym e) tt)
 
--- an order that cannot be denied holds
+-- an order or an equation that cannot be denied holds
 pub ≤ℤ-stable : {a b : ℤ} → ((a ≤ℤ b → ⊥) → ⊥) → a ≤ℤ b
 ≤ℤ-stable {a} {b} = stable {b = leZ a b} (record { sure = λ t. leZ-yes t; seen = λ h. h .le })
+
+pub <ℤ-stable : {a b : ℤ} → ((a <ℤ b → ⊥) → ⊥) → a <ℤ b
+<ℤ-stable {a} {b} = stable {b = ltZ a b} (record { sure = λ t. ltZ-yes t; seen = λ h. h .lt })
+
+pub ≡ℤ-stable : {a b : ℤ} → ((a ≡ b → ⊥) → ⊥) → a ≡ b
+≡ℤ-stable {a} {b} = dec-stable (ℤ-discrete a b)
 
 pub leZ-true : {a b : ℤ} → leZ a b ≡ true → a ≤ℤ b
 leZ-true e = leZ-yes (subst T (sym e) tt)

@@ -49,7 +49,10 @@ pub tells-iff : {b : Bool} {P : Type 0} → ((b ≡ true) ↔ P) → Tells b P
 tells-iff {b = true} e = record { sure = λ t. e .0 refl; seen = λ p. tt }
 tells-iff {b = false} e = record { sure = λ t. absurd t; seen = λ p. subst T (sym (e .1 p)) tt }
 
--- what cannot be denied holds, where a test tells it
+-- what cannot be denied holds, where it is decided, and so where a test tells it
+pub dec-stable : {P : Type 0} → Dec P → ((P → ⊥) → ⊥) → P
+dec-stable (yes p) f = p
+dec-stable (no n) f = absurd (f n)
+
 pub stable : {b : Bool} {P : Type 0} → Tells b P → ((P → ⊥) → ⊥) → P
-stable {b = true} t f = t .sure tt
-stable {b = false} t f = absurd (f (λ p. t .seen p))
+stable t = dec-stable (decided t)

@@ -56,7 +56,7 @@ answer-fixed (Total m) (Refused why) e f = absurd (refused-not-zero why (sym e))
 answer-fixed (Refused why) (Total n) e f = absurd (refused-not-zero why e)
 answer-fixed (Refused why) (Refused other) e f = ap Refused (number-fixes why other e)
 
-refused-total : (r : Written) → (writtenNumber r ≡ 0 → ⊥) → writtenTotal r ≡ 0
+pub refused-total : (r : Written) → (writtenNumber r ≡ 0 → ⊥) → writtenTotal r ≡ 0
 refused-total (Total n) ne = absurd (ne refl)
 refused-total (Refused why) ne = refl
 
