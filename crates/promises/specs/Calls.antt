@@ -1,38 +1,62 @@
--- The calls over one table, their answers, and what each call's contract says of its answer and of the table that it leaves.
+-- The calls over one table, their replies, and what each call's contract says of its reply and of the table that it leaves.
 use mathlib.Core.Path.{_≡_}
 use mathlib.Core.List.{List, [], _∷_}
 use Prim.Native.Nat.{ℕ}
 use lib.IntN.{ℤ}
 use lib.Signed.{_≤ℤ_, _<ℤ_}
+use Rattle.track.specs.Refusals.{Reason, First}
 use Rattle.track.specs.declared.query.Query.{Query}
-use Rattle.query.specs.Queried.{answerNumber, answerHits, Queried}
+use Rattle.table.specs.Fresh.{freshReasons, MakesFresh}
+use Rattle.query.specs.Queried.{answerNumber, answerHits, reasons, Queried}
 use Rattle.query.specs.declared.answer.Answer.{Answer}
-use Rattle.tree.specs.Steps.{outcomeNumber, ReportSteps, DropSteps}
-use Rattle.leafing.specs.NextLive.{Steps}
+use Rattle.tree.specs.Steps.{outcomeNumber, reportRefusals, ReportSteps, dropRefusals, DropSteps}
+use Rattle.leafing.specs.NextLive.{Steps, openingReasons}
 use Rattle.leafing.specs.declared.search.Next.{Next}
-use Rattle.writing.specs.Written.{writtenNumber, writtenTotal, WritesSheet}
+use Rattle.leafing.specs.declared.search.Next.the-variants.{None}
+use Rattle.writing.specs.Written.{writtenNumber, writtenTotal, writeReasons, WritesSheet}
 use Rattle.writing.specs.declared.Written.{Written}
-use Rattle.reading.specs.Reads.{ReadsSheet}
+use Rattle.reading.specs.Reads.{readReasons, ReadsSheet}
 use Rattle.tree.specs.declared.outcome.Outcome.{Outcome}
 
 -- a call with all that is given to it but the table: numbers, the lent list, the lent bytes
 pub data Call : Type 0 where
+  Fresh : (cells : ℤ) → Call
   Report : (id x y vx vy minute expiry : ℤ) → Call
   Drop : (id minute : ℤ) → Call
   Window : (k : Query) (list : List ℤ) → Call
   Moving : (k : Query) (list : List ℤ) → Call
+  Open : Call
   Leaf : (last : ℤ) → Call
   Write : (bytes : List ℕ) → Call
   Read : (cells : ℤ) (bytes : List ℕ) → Call
 
--- an answer with all that is given back but the table and the count of opened nodes, which alone may depend on the tree
+-- a reply with all that is given back but the table and the count of opened nodes, which alone may depend on the tree
 pub data Reply : Type 0 where
   Number : (n : ℕ) → Reply
   Listed : (n hits : ℕ) (list : List ℤ) → Reply
   Given : (r : Next) → Reply
   Bytes : (n total : ℕ) (bytes : List ℕ) → Reply
 
--- a report, a drop and a sheet reading leave another table; the others leave it as it is
+-- the number that a reply tells, and its hits
+abbrev pub told : Reply → ℕ
+told (Number n) = n
+told (Listed n hits list) = n
+told (Given r) = 0
+told (Bytes n total bytes) = n
+
+abbrev pub hitsTold : Reply → ℕ
+hitsTold (Number n) = 0
+hitsTold (Listed n hits list) = hits
+hitsTold (Given r) = 0
+hitsTold (Bytes n total bytes) = 0
+
+-- ---- what happens: of the table w the call makes the table v, and its reply is a
+-- making a fresh table, a report, a drop and a sheet reading leave another table; the others leave it as it is
+pub record WasMade (w : List ℤ) (cells : ℤ) (a : Reply) (v : List ℤ) : Type 0 where
+  pub number : ℕ
+  pub reply : a ≡ Number number
+  pub makes : MakesFresh cells w number v
+
 pub record Reported (w : List ℤ) (id x y vx vy minute expiry : ℤ) (a : Reply) (v : List ℤ) : Type 0 where
   pub number : ℕ
   pub reply : a ≡ Number number
@@ -49,6 +73,12 @@ pub record Asked (w : List ℤ) (Backward : Type 0) (k : Query) (list : List ℤ
   pub list′ : List ℤ
   pub reply : a ≡ Listed (answerNumber answer) (answerHits answer) list′
   pub queried : Queried w Backward k list answer list′
+  pub unchanged : v ≡ w
+
+pub record Opened (w : List ℤ) (a : Reply) (v : List ℤ) : Type 0 where
+  pub number : ℕ
+  pub reply : a ≡ Number number
+  pub refusal : First (openingReasons w) number
   pub unchanged : v ≡ w
 
 pub record Leafed (w : List ℤ) (last : ℤ) (a : Reply) (v : List ℤ) : Type 0 where
@@ -69,17 +99,66 @@ pub record WasRead (w : List ℤ) (cells : ℤ) (bytes : List ℕ) (a : Reply) (
   pub reply : a ≡ Number (outcomeNumber outcome)
   pub reads : ReadsSheet cells w bytes outcome v
 
--- what the contracts say: of the table w the call makes the table v, and its reply is a
 abbrev pub Happens : List ℤ → Call → Reply → List ℤ → Type 0
+Happens w (Fresh cells) a v = WasMade w cells a v
 Happens w (Report id x y vx vy minute expiry) a v = Reported w id x y vx vy minute expiry a v
 Happens w (Drop id minute) a v = Dropped w id minute a v
 Happens w (Window k list) a v = Asked w (k .end .at <ℤ k .start .at) k list a v
 Happens w (Moving k list) a v = Asked w (k .end .at ≤ℤ k .start .at) k list a v
+Happens w Open a v = Opened w a v
 Happens w (Leaf last) a v = Leafed w last a v
 Happens w (Write bytes) a v = Wrote w bytes a v
 Happens w (Read cells bytes) a v = WasRead w cells bytes a v
 
--- one call after the other
+-- ---- one call after the other
 pub data Run : List ℤ → List Call → List Reply → List ℤ → Type 0 where
   no-call : {w : List ℤ} → Run w [] [] w
   one-call : {w v u : List ℤ} {c : Call} {a : Reply} {calls : List Call} {replies : List Reply} → Happens w c a v → Run v calls replies u → Run w (c ∷ calls) (a ∷ replies) u
+
+-- ---- when a call is refused, and what it then gives back
+-- why a call of the table w is refused, in the order in which it is tried. A step of the leafing has no number: where there is nothing to give it gives none
+abbrev pub reasonsOf : List ℤ → Call → List Reason
+reasonsOf w (Fresh cells) = freshReasons cells w
+reasonsOf w (Report id x y vx vy minute expiry) = reportRefusals w id x y vx vy minute expiry
+reasonsOf w (Drop id minute) = dropRefusals w id minute
+reasonsOf w (Window k list) = reasons w (k .end .at <ℤ k .start .at) k list
+reasonsOf w (Moving k list) = reasons w (k .end .at ≤ℤ k .start .at) k list
+reasonsOf w Open = openingReasons w
+reasonsOf w (Leaf last) = []
+reasonsOf w (Write bytes) = writeReasons w bytes
+reasonsOf w (Read cells bytes) = readReasons cells w bytes
+
+-- the reply of a call that is refused by n, with so many hits: what was lent comes back as it was, and a total is 0
+abbrev pub refusedBy : Call → ℕ → ℕ → Reply
+refusedBy (Fresh cells) n hits = Number n
+refusedBy (Report id x y vx vy minute expiry) n hits = Number n
+refusedBy (Drop id minute) n hits = Number n
+refusedBy (Window k list) n hits = Listed n hits list
+refusedBy (Moving k list) n hits = Listed n hits list
+refusedBy Open n hits = Number n
+refusedBy (Leaf last) n hits = Given None
+refusedBy (Write bytes) n hits = Bytes n 0 bytes
+refusedBy (Read cells bytes) n hits = Number n
+
+-- a call that has changed nothing: table, list and bytes are as they were, and no number is given but its own, and the hits by 10
+pub record ChangesNothing (w : List ℤ) (c : Call) (a : Reply) (v : List ℤ) : Type 0 where
+  pub same-table : v ≡ w
+  pub same-lent : a ≡ refusedBy c (told a) (hitsTold a)
+  pub no-hits : (told a ≡ 10 → ⊥) → hitsTold a ≡ 0
+
+-- a query, still or moving, and the list that is lent to it
+pub data IsQuery : Call → Query → List ℤ → Type 0 where
+  window : {k : Query} {list : List ℤ} → IsQuery (Window k list) k list
+  moving : {k : Query} {list : List ℤ} → IsQuery (Moving k list) k list
+
+-- a call that only reads its table
+abbrev pub OnlyReads : Call → Type 0
+OnlyReads (Fresh cells) = ⊥
+OnlyReads (Report id x y vx vy minute expiry) = ⊥
+OnlyReads (Drop id minute) = ⊥
+OnlyReads (Window k list) = Unit {0}
+OnlyReads (Moving k list) = Unit {0}
+OnlyReads Open = Unit {0}
+OnlyReads (Leaf last) = Unit {0}
+OnlyReads (Write bytes) = Unit {0}
+OnlyReads (Read cells bytes) = ⊥

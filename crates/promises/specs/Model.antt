@@ -5,14 +5,15 @@ use mathlib.Core.Logic.{_↔_}
 use mathlib.Core.List.{List, [], _∷_}
 use Prim.Native.Nat.{ℕ, zero, suc}
 use lib.IntN.{ℤ, pos, ℤ-discrete}
+use lib.ListN.{length}
 use Rattle.whole.specs.Lists.{_∈_, keep}
 use Rattle.track.specs.Life.{LivesAt}
 use Rattle.track.specs.Report.{keptCell}
 use Rattle.track.specs.declared.cell.Cell.{Cell}
-use Rattle.table.specs.Header.{clock}
+use Rattle.table.specs.Header.{capacityWord, clock}
 use Rattle.table.specs.Sound.{Sound, Live}
 use Rattle.sheet.specs.Sheet.{clockOf, cellsOf}
-use Rattle.promises.specs.Calls.{Call, Report, Drop, Window, Moving, Leaf, Write, Read, Reply, Number, Listed, Given, Bytes}
+use Rattle.promises.specs.Calls.{Call, Fresh, Report, Drop, Window, Moving, Open, Leaf, Write, Read, Reply, Number, told, Happens}
 
 pub record Model : Type 0 where
   pub clock : ℤ
@@ -29,9 +30,12 @@ pub record Together (m : Model) (w : List ℤ) : Type 0 where
   pub clock-is : clock w ≡ m .clock
   pub live : (c : Cell) → Live w c ↔ LiveIn m c
 
--- a fresh table
+-- a fresh table, and one that was read from a sheet
 abbrev pub fresh : Model
 fresh = record { clock = pos 0; left = [] }
+
+abbrev pub ofSheet : List ℕ → Model
+ofSheet bytes = record { clock = clockOf bytes; left = cellsOf bytes }
 
 -- the cells with other identifiers
 abbrev pub differs : {P : Type 0} → Dec P → Bool
@@ -41,28 +45,52 @@ differs (no n) = true
 abbrev pub others : ℤ → List Cell → List Cell
 others id cells = keep (λ c. differs (ℤ-discrete (c .id) id)) cells
 
--- what becomes of the model by a call with this number: a refusal, and a call that only reads, leave it as it is
-abbrev pub after : Model → Call → ℕ → Model
-after m (Report id x y vx vy minute expiry) zero = record { clock = minute; left = keptCell id x y vx vy minute expiry ∷ others id (m .left) }
-after m (Report id x y vx vy minute expiry) (suc n) = m
-after m (Drop id minute) zero = record { clock = minute; left = others id (m .left) }
-after m (Drop id minute) (suc n) = m
-after m (Read cells bytes) zero = record { clock = clockOf bytes; left = cellsOf bytes }
-after m (Read cells bytes) (suc n) = m
-after m (Window k list) n = m
-after m (Moving k list) n = m
-after m (Leaf last) n = m
-after m (Write bytes) n = m
+-- ---- what becomes of the model
+-- by an accepted call: one that only reads leaves it as it is
+abbrev pub accepted : Model → Call → Model
+accepted m (Fresh cells) = fresh
+accepted m (Report id x y vx vy minute expiry) = record { clock = minute; left = keptCell id x y vx vy minute expiry ∷ others id (m .left) }
+accepted m (Drop id minute) = record { clock = minute; left = others id (m .left) }
+accepted m (Window k list) = m
+accepted m (Moving k list) = m
+accepted m Open = m
+accepted m (Leaf last) = m
+accepted m (Write bytes) = m
+accepted m (Read cells bytes) = ofSheet bytes
 
--- the number that a reply tells
-abbrev pub told : Reply → ℕ
-told (Number n) = n
-told (Listed n hits list) = n
-told (Given r) = zero
-told (Bytes n total bytes) = n
+-- by a call with this number: a refusal leaves it as it is
+abbrev pub after : Model → Call → ℕ → Model
+after m c zero = accepted m c
+after m c (suc n) = m
 
 -- by a run of calls
 abbrev pub afterAll : Model → List Call → List Reply → Model
 afterAll m [] replies = m
 afterAll m (c ∷ calls) [] = m
 afterAll m (c ∷ calls) (a ∷ replies) = afterAll (after m c (told a)) calls replies
+
+-- ---- where a run starts: at a fresh table made in any words, or at a sheet read into any
+pub data Start : Model → List ℤ → Type 0 where
+  made : {w : List ℤ} {cells : ℤ} {v : List ℤ} → Happens w (Fresh cells) (Number 0) v → Start fresh v
+  read : {w : List ℤ} {cells : ℤ} {bytes : List ℕ} {v : List ℤ} → Happens w (Read cells bytes) (Number 0) v → Start (ofSheet bytes) v
+
+-- ---- the size of a table: its length stands, and its capacity does but for an accepted new start, which sets it
+abbrev pub acceptedCapacity : ℤ → Call → ℤ
+acceptedCapacity n (Fresh cells) = cells
+acceptedCapacity n (Report id x y vx vy minute expiry) = n
+acceptedCapacity n (Drop id minute) = n
+acceptedCapacity n (Window k list) = n
+acceptedCapacity n (Moving k list) = n
+acceptedCapacity n Open = n
+acceptedCapacity n (Leaf last) = n
+acceptedCapacity n (Write bytes) = n
+acceptedCapacity n (Read cells bytes) = cells
+
+abbrev pub capacityAfter : ℤ → Call → ℕ → ℤ
+capacityAfter n c zero = acceptedCapacity n c
+capacityAfter n c (suc k) = n
+
+-- v is as long as w and has the capacity n
+pub record Sized (w v : List ℤ) (n : ℤ) : Type 0 where
+  pub as-long : length v ≡ length w
+  pub capacity-is : capacityWord v ≡ n

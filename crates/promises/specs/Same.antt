@@ -1,36 +1,39 @@
--- The second promise over runs: two tables of one capacity and length that have the same clock and live cells give the same replies to every run of calls,
--- and have the same clock and live cells after it. So every reply is a function of the model, the capacity, the length and what is given to the call.
+-- Two tables of one capacity and length that have the same clock and live cells give the same replies to every run of calls, and have the same clock and
+-- live cells after it. So every reply is a function of the model, the capacity, the length and what is given to the call.
 use mathlib.Core.Path.{_≡_, refl, sym, ap, ap₂, _∙_, subst}
 use mathlib.Core.Logic.{_⊎_, _↔_, inl, inr, ⊎-elim}
 use mathlib.Core.List.{List, _∷_, _++_}
-use Prim.Native.Nat.{ℕ}
+use Prim.Native.Nat.{ℕ, _<_}
 use native.Mathlib.Decide.{ℕ-discrete}
 use native.Mathlib.Omega.{arith}
 use lib.IntN.{ℤ}
 use lib.ListN.{length, drop}
 use lib.Signed.{_≤ℤ_, _<ℤ_}
 use Rattle.whole.specs.Order.{≤ℤ-or-<ℤ}
+use Rattle.words.specs.Words.{natOf}
 use Rattle.track.specs.Refusals.{First, first-fixed, first-as}
 use Rattle.track.specs.declared.cell.Cell.{Cell}
 use Rattle.track.specs.declared.query.Query.{Query}
-use Rattle.table.specs.Header.{capacityWord, clock}
+use Rattle.table.specs.Header.{capacityWord, clock, wordsFor}
+use Rattle.table.specs.Fresh.{freshReasons}
+use Rattle.table.specs.Sound.{Live}
 use Rattle.query.specs.Queried.{answerNumber, answerHits, reasons, Queried}
 use Rattle.query.specs.QueriedLaws.{hits-fixed, refused-hits}
 use Rattle.query.specs.Hits.{Hits}
 use Rattle.query.specs.declared.answer.Answer.{Answer}
-use Rattle.leafing.specs.NextLive.{NextOf}
+use Rattle.leafing.specs.NextLive.{NextOf, openingReasons}
 use Rattle.leafing.specs.NextLiveLaws.{steps-sound, steps-fixed}
 use Rattle.leafing.specs.declared.search.Next.{Next}
 use Rattle.leafing.specs.declared.search.Next.the-variants.{One, None}
 use Rattle.writing.specs.Written.{writtenNumber, writtenTotal}
 use Rattle.writing.specs.WrittenLaws.{written-same}
 use Rattle.reading.specs.Reads.{readReasons, IsRead}
-use Rattle.tree.specs.Steps.{outcomeNumber}
+use Rattle.tree.specs.Steps.{outcomeNumber, ReportSteps}
 use Rattle.alike.specs.Alike.{Alike}
-use Rattle.alike.specs.AlikeLaws.{hits-too, query-number, report-alike, drop-alike}
-use Rattle.promises.specs.Calls.{Call, Report, Drop, Window, Moving, Leaf, Write, Read, Reply, Number, Listed, Given, Bytes, Asked, Leafed, Wrote, WasRead, Happens, Run, no-call, one-call}
-use Rattle.promises.specs.Model.{Model, Together}
-use Rattle.promises.specs.Together.{call-size}
+use Rattle.alike.specs.AlikeLaws.{hits-too, query-number, report-alike, drop-alike, fresh-alike, reports-change-places}
+use Rattle.promises.specs.Calls.{Call, Fresh, Report, Drop, Window, Moving, Open, Leaf, Write, Read, Reply, Number, Listed, Given, Bytes, told, WasMade, Reported, Asked, Opened, Leafed, Wrote, WasRead, Happens, Run, no-call, one-call}
+use Rattle.promises.specs.Model.{Model, Together, Start}
+use Rattle.promises.specs.Together.{start-together, run-together, call-size}
 
 -- two tables that go together with one model, of one capacity, are alike
 pub model-alike : {m : Model} {w v : List ℤ} → capacityWord w ≡ capacityWord v → Together m w → Together m v → Alike w v
@@ -118,16 +121,47 @@ wrote-alike a p q =
       same-alike (p .unchanged) (q .unchanged) a,
     )
 
--- ---- reading a sheet looks at the length alone
-module _ {w v : List ℤ} (a : Alike w v) (long : length w ≡ length v) {cells : ℤ} {bytes : List ℕ} where
-  read-alike : {x y : Reply} {w′ v′ : List ℤ} → WasRead w cells bytes x w′ → WasRead v cells bytes y v′ → (x ≡ y) × Alike w′ v′
-  read-alike {x} {y} {w′} {v′} p q = (p .reply ∙ ap Number same ∙ sym (q .reply), by (ℕ-discrete (outcomeNumber (p .outcome)) 0))
+-- ---- an opening looks at nothing but soundness
+opened-alike : {w v : List ℤ} {x y : Reply} {w′ v′ : List ℤ} → Alike w v → Opened w x w′ → Opened v y v′ → (x ≡ y) × Alike w′ v′
+opened-alike {w} {v} a p q = (p .reply ∙ ap Number same ∙ sym (q .reply), same-alike (p .unchanged) (q .unchanged) a)
+  where
+    same : p .number ≡ q .number
+    same =
+        first-fixed (openingReasons v) (p .number) (q .number)
+        (first-as (openingReasons w) (openingReasons v) (p .number) (refl, (λ n. absurd (n (a .sound)), λ n. absurd (n (a .sound′))), tt) (p .refusal))
+        (q .refusal)
+
+-- ---- a new start looks at the length alone
+-- by the number, which is the same for both
+alike-by : {w v w′ v′ : List ℤ} {m n : ℕ} → Alike w v → m ≡ n → (m ≡ 0 → n ≡ 0 → Alike w′ v′) → ((m ≡ 0 → ⊥) → w′ ≡ w) → ((n ≡ 0 → ⊥) → v′ ≡ v) → Alike w′ v′
+alike-by {w′} {v′} {m} a same done left left′ = by (ℕ-discrete m 0)
+  where
+    by : Dec (m ≡ 0) → Alike w′ v′
+    by (yes e) = done e (sym same ∙ e)
+    by (no h) = same-alike (left h) (left′ (λ e. h (same ∙ e))) a
+
+module _ {w v : List ℤ} (a : Alike w v) (long : length w ≡ length v) (cells : ℤ) where
+  short-alike : (length w < wordsFor (natOf cells)) ↔ (length v < wordsFor (natOf cells))
+  short-alike = (λ lt. rw (← long) lt, λ lt. rw long lt)
+
+  made-alike : {x y : Reply} {w′ v′ : List ℤ} → WasMade w cells x w′ → WasMade v cells y v′ → (x ≡ y) × Alike w′ v′
+  made-alike p q = (p .reply ∙ ap Number same ∙ sym (q .reply), alike-by a same (λ e f. fresh-alike (p .makes .accepted e) (q .makes .accepted f)) (p .makes .refused) (q .makes .refused))
+    where
+      same : p .number ≡ q .number
+      same =
+          first-fixed (freshReasons cells v) (p .number) (q .number)
+          (first-as (freshReasons cells w) (freshReasons cells v) (p .number) (refl, always, (refl, short-alike, tt)) (p .makes .refusal))
+          (q .makes .refusal)
+
+  read-alike : {bytes : List ℕ} {x y : Reply} {w′ v′ : List ℤ} → WasRead w cells bytes x w′ → WasRead v cells bytes y v′ → (x ≡ y) × Alike w′ v′
+  read-alike {bytes} {x} {y} {w′} {v′} p q =
+      (p .reply ∙ ap Number same ∙ sym (q .reply), alike-by a same (λ e f. both (p .reads .accepted e) (q .reads .accepted f)) (p .reads .refused) (q .reads .refused))
     where
       same : outcomeNumber (p .outcome) ≡ outcomeNumber (q .outcome)
       same =
           first-fixed (readReasons cells v bytes) (outcomeNumber (p .outcome)) (outcomeNumber (q .outcome))
           (first-as (readReasons cells w bytes) (readReasons cells v bytes) (outcomeNumber (p .outcome))
-          (refl, always, (refl, (λ lt. rw (← long) lt, λ lt. rw long lt), (refl, always, (refl, always, (refl, always, tt)))))
+          (refl, always, (refl, short-alike, (refl, always, (refl, always, (refl, always, tt)))))
           (p .reads .refusal))
           (q .reads .refusal)
 
@@ -143,19 +177,17 @@ module _ {w v : List ℤ} (a : Alike w v) (long : length w ≡ length v) {cells 
         );
       }
 
-      by : Dec (outcomeNumber (p .outcome) ≡ 0) → Alike w′ v′
-      by (yes e) = both (p .reads .accepted e) (q .reads .accepted (sym same ∙ e))
-      by (no n) = same-alike (p .reads .refused n) (q .reads .refused (λ z. n (same ∙ z))) a
-
 -- ---- any call, and any run of calls
 pub call-alike : {w v : List ℤ} → Alike w v → length w ≡ length v → (c : Call) (x y : Reply) {w′ v′ : List ℤ} → Happens w c x w′ → Happens v c y v′ → (x ≡ y) × Alike w′ v′
+call-alike a long (Fresh cells) s t p q = made-alike a long cells p q
 call-alike a long (Report id x y vx vy minute expiry) s t p q = let r = report-alike a id minute (p .steps) (q .steps) in (p .reply ∙ ap Number (r .0) ∙ sym (q .reply), r .1)
 call-alike a long (Drop id minute) s t p q = let r = drop-alike a id minute (p .steps) (q .steps) in (p .reply ∙ ap Number (r .0) ∙ sym (q .reply), r .1)
 call-alike a long (Window k list) s t p q = asked-alike a _ k list p q
 call-alike a long (Moving k list) s t p q = asked-alike a _ k list p q
+call-alike a long Open s t p q = opened-alike a p q
 call-alike a long (Leaf last) s t p q = leafed-alike a p q
 call-alike a long (Write bytes) s t p q = wrote-alike a p q
-call-alike a long (Read cells bytes) s t p q = read-alike a long p q
+call-alike a long (Read cells bytes) s t p q = read-alike a long cells p q
 
 pub run-alike : {w v : List ℤ} {calls : List Call} {xs ys : List Reply} {w′ v′ : List ℤ} → Alike w v → length w ≡ length v → Run w calls xs w′ → Run v calls ys v′ → (xs ≡ ys) × Alike w′ v′
 run-alike a long no-call no-call = (refl, a)
@@ -168,3 +200,27 @@ run-alike a long (one-call {c} {a = x} p run) (one-call {a = y} q again) =
 pub reply-fixed : {m : Model} {w v : List ℤ} → Together m w → Together m v → capacityWord w ≡ capacityWord v → length w ≡ length v
     → (c : Call) (x y : Reply) (w′ v′ : List ℤ) → Happens w c x w′ → Happens v c y v′ → x ≡ y
 reply-fixed s t cells long c x y w′ v′ p q = call-alike (model-alike cells s t) long c x y p q .0
+
+-- ---- tables that runs reach
+-- from two starts, where clock, live cells and capacity have come out the same
+pub reached-alike : {m m′ : Model} {v v′ u u′ : List ℤ} {calls calls′ : List Call} {replies replies′ : List Reply} → Start m v → Run v calls replies u → Start m′ v′ → Run v′ calls′ replies′ u′
+    → capacityWord u ≡ capacityWord u′ → clock u ≡ clock u′ → ((c : Cell) → Live u c ↔ Live u′ c) → Alike u u′
+reached-alike start run start′ run′ cells clocks live = record {
+  sound = run-together (start-together start) run .sound;
+  sound′ = run-together (start-together start′) run′ .sound;
+  capacity-is = cells;
+  clock-is = clocks;
+  live = live;
+}
+
+-- by two reports that change places, and what comes after them
+report-done : {id x y vx vy minute expiry : ℤ} {w v : List ℤ} → Reported w id x y vx vy minute expiry (Number 0) v → ReportSteps w id x y vx vy minute expiry 0 v
+report-done {id} {x} {y} {vx} {vy} {minute} {expiry} {w} {v} h = subst (λ (n : ℕ). ReportSteps w id x y vx vy minute expiry n v) (sym (ap told (h .reply))) (h .steps)
+
+pub exchanged-alike : {minute i x y vx vy expiry j x′ y′ vx′ vy′ expiry′ : ℤ} {w u u′ : List ℤ} {further : List Call} {xs ys : List Reply} → (i ≡ j → ⊥)
+    → Run w (Report i x y vx vy minute expiry ∷ Report j x′ y′ vx′ vy′ minute expiry′ ∷ further) (Number 0 ∷ Number 0 ∷ xs) u
+    → Run w (Report j x′ y′ vx′ vy′ minute expiry′ ∷ Report i x y vx vy minute expiry ∷ further) (Number 0 ∷ Number 0 ∷ ys) u′ → (xs ≡ ys) × Alike u u′
+exchanged-alike differ (one-call {c = one} p (one-call {c = other} q run)) (one-call r (one-call s run′)) =
+    run-alike (reports-change-places differ (report-done p) (report-done q) (report-done r) (report-done s))
+    (call-size other (Number 0) q .as-long ∙ call-size one (Number 0) p .as-long ∙ sym (call-size one (Number 0) s .as-long ∙ call-size other (Number 0) r .as-long))
+    run run′

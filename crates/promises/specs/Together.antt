@@ -1,5 +1,5 @@
--- The first promise over runs: table and model go together, from a fresh table and from an accepted sheet reading.
-use mathlib.Core.Path.{_≡_, refl, ap}
+-- Table and model go together after any calls; and what becomes of a table's size.
+use mathlib.Core.Path.{_≡_, refl, sym, ap, _∙_}
 use mathlib.Core.Bool.{true}
 use mathlib.Core.Logic.{_⊎_, inl, inr, ⊎-elim}
 use mathlib.Core.List.{List, _∷_, List·Memᴰ·head, List·Memᴰ·tail, List·Memᴰ·not-nil, List·Memᴰ·cases-cons}
@@ -15,11 +15,10 @@ use Rattle.track.specs.Refusals.{First, none-holds, not-zero}
 use Rattle.track.specs.declared.cell.Cell.{Cell}
 use Rattle.table.specs.Header.{capacityWord, clock}
 use Rattle.table.specs.Fresh.{IsFresh}
-use Rattle.tree.specs.Steps.{outcomeNumber, Stays, Step, reportRefusals, ReportSteps, dropRefusals, DropSteps}
-use Rattle.sheet.specs.Sheet.{clockOf, cellsOf}
+use Rattle.tree.specs.Steps.{outcomeNumber, Stays, Step, reportRefusals, dropRefusals}
 use Rattle.reading.specs.Reads.{IsRead}
-use Rattle.promises.specs.Calls.{Call, Report, Drop, Window, Moving, Leaf, Write, Read, Reply, Happens, Run, no-call, one-call}
-use Rattle.promises.specs.Model.{Model, Together, fresh, differs, others, after, told, afterAll}
+use Rattle.promises.specs.Calls.{Call, Fresh, Report, Drop, Window, Moving, Open, Leaf, Write, Read, Reply, told, Happens, Run, no-call, one-call}
+use Rattle.promises.specs.Model.{Model, Together, fresh, ofSheet, differs, others, accepted, after, afterAll, Start, made, read, acceptedCapacity, capacityAfter, Sized}
 
 -- ---- cells with other identifiers
 module _ {P : Type 0} where
@@ -72,27 +71,22 @@ module _ {m : Model} {w : List ℤ} (t : Together m w) {minute id : ℤ} (late :
   }
 
 -- ---- an accepted call comes at or after the clock
-report-late : {w : List ℤ} {id x y vx vy minute expiry : ℤ} → First (reportRefusals w id x y vx vy minute expiry) 0 → clock w ≤ℤ minute
-report-late {w} {id} {x} {y} {vx} {vy} {minute} {expiry} f =
-    not-before (none-holds (reportRefusals w id x y vx vy minute expiry) 0 (not-zero 0, (not-zero 3, (not-zero 4, (not-zero 5, (not-zero 8, tt))))) f refl .1 .1 .0)
+report-late : {w : List ℤ} {id x y vx vy minute expiry : ℤ} {n : ℕ} → First (reportRefusals w id x y vx vy minute expiry) n → n ≡ 0 → clock w ≤ℤ minute
+report-late {w} {id} {x} {y} {vx} {vy} {minute} {expiry} {n} f e =
+    not-before (none-holds (reportRefusals w id x y vx vy minute expiry) n (not-zero 0, (not-zero 3, (not-zero 4, (not-zero 5, (not-zero 8, tt))))) f e .1 .1 .0)
 
-drop-late : {w : List ℤ} {id minute : ℤ} → First (dropRefusals w id minute) 0 → clock w ≤ℤ minute
-drop-late {w} {id} {minute} f = not-before (none-holds (dropRefusals w id minute) 0 (not-zero 0, (not-zero 3, (not-zero 4, (not-zero 7, tt)))) f refl .1 .1 .0)
+drop-late : {w : List ℤ} {id minute : ℤ} {n : ℕ} → First (dropRefusals w id minute) n → n ≡ 0 → clock w ≤ℤ minute
+drop-late {w} {id} {minute} {n} f e = not-before (none-holds (dropRefusals w id minute) n (not-zero 0, (not-zero 3, (not-zero 4, (not-zero 7, tt)))) f e .1 .1 .0)
 
--- ---- the ways of a call that changes the table
-same-together : {m : Model} {w v : List ℤ} → v ≡ w → Together m w → Together m v
-same-together e t = rw e t
+-- ---- where a run starts
+fresh-together : {cells : ℤ} {w v : List ℤ} → IsFresh cells w v → Together fresh v
+fresh-together f = record {
+  sound = f .sound;
+  clock-is = f .clock-is;
+  live = λ c. (λ l. absurd (List·Memᴰ·not-nil (rw (f .none-held) at (l .is-held))), λ l. absurd (List·Memᴰ·not-nil (l .is-left)));
+}
 
-by-report : {m : Model} {w : List ℤ} {id x y vx vy minute expiry : ℤ} (n : ℕ) {v : List ℤ} → Together m w → ReportSteps w id x y vx vy minute expiry n v
-    → Together (after m (Report id x y vx vy minute expiry) n) v
-by-report zero t s = report-together t (report-late (s .refusal)) (s .accepted refl)
-by-report (suc n) t s = same-together (s .refused (not-zero n)) t
-
-by-drop : {m : Model} {w : List ℤ} {id minute : ℤ} (n : ℕ) {v : List ℤ} → Together m w → DropSteps w id minute n v → Together (after m (Drop id minute) n) v
-by-drop zero t s = drop-together t (drop-late (s .refusal)) (s .accepted refl)
-by-drop (suc n) t s = same-together (s .refused (not-zero n)) t
-
-pub read-together : {cells : ℤ} {w v : List ℤ} {bytes : List ℕ} → IsRead cells w bytes v → Together (record { clock = clockOf bytes; left = cellsOf bytes }) v
+read-together : {cells : ℤ} {w v : List ℤ} {bytes : List ℕ} → IsRead cells w bytes v → Together (ofSheet bytes) v
 read-together r = record {
   sound = r .sound;
   clock-is = r .clock-is;
@@ -102,73 +96,59 @@ read-together r = record {
   );
 }
 
-by-read : {m : Model} {w v : List ℤ} {cells : ℤ} {bytes : List ℕ} (n : ℕ) → Together m w → (n ≡ 0 → IsRead cells w bytes v) → ((n ≡ 0 → ⊥) → v ≡ w) → Together (after m (Read cells bytes) n) v
-by-read zero t read refused = read-together (read refl)
-by-read (suc n) t read refused = same-together (refused (not-zero n)) t
+pub start-together : {m : Model} {v : List ℤ} → Start m v → Together m v
+start-together (made h) = fresh-together (h .makes .accepted (sym (ap told (h .reply))))
+start-together (read h) = read-together (h .reads .accepted (sym (ap told (h .reply))))
 
--- ---- after each call table and model go together still
+-- ---- a call by its number: what it makes of the model where it is accepted, and the table as it was where it is refused
+by-number : {m : Model} {w v : List ℤ} (c : Call) (n : ℕ) → Together m w → (n ≡ 0 → Together (accepted m c) v) → ((n ≡ 0 → ⊥) → v ≡ w) → Together (after m c n) v
+by-number c zero t done refused = done refl
+by-number c (suc n) t done refused = rw (refused (not-zero n)) t
+
+-- after each call table and model go together still
 pub call-together : {m : Model} {w : List ℤ} (c : Call) (a : Reply) {v : List ℤ} → Together m w → Happens w c a v → Together (after m c (told a)) v
-call-together (Report id x y vx vy minute expiry) a t h = rw (h .reply) (by-report (h .number) t (h .steps))
-call-together (Drop id minute) a t h = rw (h .reply) (by-drop (h .number) t (h .steps))
-call-together (Read cells bytes) a t h = rw (h .reply) (by-read (outcomeNumber (h .outcome)) t (h .reads .accepted) (h .reads .refused))
-call-together (Window k list) a t h = same-together (h .unchanged) t
-call-together (Moving k list) a t h = same-together (h .unchanged) t
-call-together (Leaf last) a t h = same-together (h .unchanged) t
-call-together (Write bytes) a t h = same-together (h .unchanged) t
+call-together (Fresh cells) a t h = rw (h .reply) (by-number (Fresh cells) (h .number) t (λ e. fresh-together (h .makes .accepted e)) (h .makes .refused))
+call-together (Report id x y vx vy minute expiry) a t h =
+    rw (h .reply) (by-number (Report id x y vx vy minute expiry) (h .number) t (λ e. report-together t (report-late (h .steps .refusal) e) (h .steps .accepted e)) (h .steps .refused))
+call-together (Drop id minute) a t h =
+    rw (h .reply) (by-number (Drop id minute) (h .number) t (λ e. drop-together t (drop-late (h .steps .refusal) e) (h .steps .accepted e)) (h .steps .refused))
+call-together (Read cells bytes) a t h = rw (h .reply) (by-number (Read cells bytes) (outcomeNumber (h .outcome)) t (λ e. read-together (h .reads .accepted e)) (h .reads .refused))
+call-together (Window k list) a t h = by-number (Window k list) (told a) t (λ e. rw (h .unchanged) t) (λ n. h .unchanged)
+call-together (Moving k list) a t h = by-number (Moving k list) (told a) t (λ e. rw (h .unchanged) t) (λ n. h .unchanged)
+call-together Open a t h = by-number Open (told a) t (λ e. rw (h .unchanged) t) (λ n. h .unchanged)
+call-together (Leaf last) a t h = by-number (Leaf last) (told a) t (λ e. rw (h .unchanged) t) (λ n. h .unchanged)
+call-together (Write bytes) a t h = by-number (Write bytes) (told a) t (λ e. rw (h .unchanged) t) (λ n. h .unchanged)
 
 -- and so after any calls
 pub run-together : {m : Model} {w : List ℤ} {calls : List Call} {replies : List Reply} {u : List ℤ} → Together m w → Run w calls replies u → Together (afterAll m calls replies) u
 run-together t no-call = t
 run-together t (one-call {c} {a} h run) = run-together (call-together c a t h) run
 
--- ---- where a run starts
-pub fresh-together : {cells : ℤ} {w v : List ℤ} → IsFresh cells w v → Together fresh v
-fresh-together f = record {
-  sound = f .sound;
-  clock-is = f .clock-is;
-  live = λ c. (λ l. absurd (List·Memᴰ·not-nil (rw (f .none-held) at (l .is-held))), λ l. absurd (List·Memᴰ·not-nil (l .is-left)));
-}
-
--- so after any calls from a fresh table, refused ones among them, the table is sound, and its live cells are those of the model
-pub after-fresh : {cells : ℤ} {w v : List ℤ} {calls : List Call} {replies : List Reply} {u : List ℤ} → IsFresh cells w v → Run v calls replies u → Together (afterAll fresh calls replies) u
-after-fresh f run = run-together (fresh-together f) run
-
--- and from a sheet that was read
-pub after-reading : {cells : ℤ} {w v : List ℤ} {bytes : List ℕ} {calls : List Call} {replies : List Reply} {u : List ℤ} → IsRead cells w bytes v → Run v calls replies u
-    → Together (afterAll (record { clock = clockOf bytes; left = cellsOf bytes }) calls replies) u
-after-reading r run = run-together (read-together r) run
-
--- ---- the size: the length stands, and the capacity does but for an accepted sheet reading, which sets it
-abbrev pub capacityAfter : ℤ → Call → ℕ → ℤ
-capacityAfter n (Read cells bytes) zero = cells
-capacityAfter n (Read cells bytes) (suc k) = n
-capacityAfter n (Report id x y vx vy minute expiry) k = n
-capacityAfter n (Drop id minute) k = n
-capacityAfter n (Window q list) k = n
-capacityAfter n (Moving q list) k = n
-capacityAfter n (Leaf last) k = n
-capacityAfter n (Write bytes) k = n
-
-pub record Sized (w v : List ℤ) (n : ℤ) : Type 0 where
-  pub as-long : length v ≡ length w
-  pub capacity-is : capacityWord v ≡ n
-
+-- ---- the size, in the same way
 same-size : {w v : List ℤ} → v ≡ w → Sized w v (capacityWord w)
 same-size e = record { as-long = ap length e; capacity-is = ap capacityWord e }
 
-step-size : {w v : List ℤ} {minute : ℤ} {L : Cell → Type 0} (n : ℕ) → (n ≡ 0 → Step w v minute L) → ((n ≡ 0 → ⊥) → v ≡ w) → Sized w v (capacityWord w)
-step-size zero step refused = let s = step refl in record { as-long = s .as-long; capacity-is = s .capacity-is }
-step-size (suc n) step refused = same-size (refused (not-zero n))
+step-size : {w v : List ℤ} {minute : ℤ} {L : Cell → Type 0} → Step w v minute L → Sized w v (capacityWord w)
+step-size s = record { as-long = s .as-long; capacity-is = s .capacity-is }
 
-read-size : {w v : List ℤ} {cells : ℤ} {bytes : List ℕ} (n : ℕ) → (n ≡ 0 → IsRead cells w bytes v) → ((n ≡ 0 → ⊥) → v ≡ w) → Sized w v (capacityAfter (capacityWord w) (Read cells bytes) n)
-read-size zero read refused = let r = read refl in record { as-long = r .as-long; capacity-is = r .capacity-is }
-read-size (suc n) read refused = same-size (refused (not-zero n))
+size-by : {w v : List ℤ} (c : Call) (n : ℕ) → (n ≡ 0 → Sized w v (acceptedCapacity (capacityWord w) c)) → ((n ≡ 0 → ⊥) → v ≡ w) → Sized w v (capacityAfter (capacityWord w) c n)
+size-by c zero done refused = done refl
+size-by c (suc n) done refused = same-size (refused (not-zero n))
 
 pub call-size : {w : List ℤ} (c : Call) (a : Reply) {v : List ℤ} → Happens w c a v → Sized w v (capacityAfter (capacityWord w) c (told a))
-call-size (Report id x y vx vy minute expiry) a h = step-size (h .number) (h .steps .accepted) (h .steps .refused)
-call-size (Drop id minute) a h = step-size (h .number) (h .steps .accepted) (h .steps .refused)
-call-size (Read cells bytes) a h = rw (h .reply) (read-size (outcomeNumber (h .outcome)) (h .reads .accepted) (h .reads .refused))
-call-size (Window k list) a h = same-size (h .unchanged)
-call-size (Moving k list) a h = same-size (h .unchanged)
-call-size (Leaf last) a h = same-size (h .unchanged)
-call-size (Write bytes) a h = same-size (h .unchanged)
+call-size (Fresh cells) a h =
+    rw (h .reply) (size-by (Fresh cells) (h .number) (λ e. let f = h .makes .accepted e in record { as-long = f .as-long; capacity-is = f .capacity-is }) (h .makes .refused))
+call-size (Report id x y vx vy minute expiry) a h = rw (h .reply) (size-by (Report id x y vx vy minute expiry) (h .number) (λ e. step-size (h .steps .accepted e)) (h .steps .refused))
+call-size (Drop id minute) a h = rw (h .reply) (size-by (Drop id minute) (h .number) (λ e. step-size (h .steps .accepted e)) (h .steps .refused))
+call-size (Read cells bytes) a h =
+    rw (h .reply)
+    (size-by (Read cells bytes) (outcomeNumber (h .outcome)) (λ e. let r = h .reads .accepted e in record { as-long = r .as-long; capacity-is = r .capacity-is }) (h .reads .refused))
+call-size (Window k list) a h = size-by (Window k list) (told a) (λ e. same-size (h .unchanged)) (λ n. h .unchanged)
+call-size (Moving k list) a h = size-by (Moving k list) (told a) (λ e. same-size (h .unchanged)) (λ n. h .unchanged)
+call-size Open a h = size-by Open (told a) (λ e. same-size (h .unchanged)) (λ n. h .unchanged)
+call-size (Leaf last) a h = size-by (Leaf last) (told a) (λ e. same-size (h .unchanged)) (λ n. h .unchanged)
+call-size (Write bytes) a h = size-by (Write bytes) (told a) (λ e. same-size (h .unchanged)) (λ n. h .unchanged)
+
+pub run-length : {w : List ℤ} {calls : List Call} {replies : List Reply} {u : List ℤ} → Run w calls replies u → length u ≡ length w
+run-length no-call = refl
+run-length (one-call {c} {a} h run) = run-length run ∙ call-size c a h .as-long
