@@ -1,4 +1,4 @@
--- The calls over one table, their replies, and what each call's contract says of its reply and of the table that it leaves.
+-- The calls over one table and their replies; what each call's contract says of its reply and of the table that it leaves; runs of calls; when a call is refused.
 use mathlib.Core.Path.{_≡_}
 use mathlib.Core.List.{List, [], _∷_}
 use Prim.Native.Nat.{ℕ}
@@ -115,7 +115,7 @@ pub data Run : List ℤ → List Call → List Reply → List ℤ → Type 0 whe
   no-call : {w : List ℤ} → Run w [] [] w
   one-call : {w v u : List ℤ} {c : Call} {a : Reply} {calls : List Call} {replies : List Reply} → Happens w c a v → Run v calls replies u → Run w (c ∷ calls) (a ∷ replies) u
 
--- ---- when a call is refused, and what it then gives back
+-- ---- when a call is refused, and what is left of it
 -- why a call of the table w is refused, in the order in which it is tried. A step of the leafing has no number: where there is nothing to give it gives none
 abbrev pub reasonsOf : List ℤ → Call → List Reason
 reasonsOf w (Fresh cells) = freshReasons cells w
@@ -128,7 +128,7 @@ reasonsOf w (Leaf last) = []
 reasonsOf w (Write bytes) = writeReasons w bytes
 reasonsOf w (Read cells bytes) = readReasons cells w bytes
 
--- the reply of a call that is refused by n, with so many hits: what was lent comes back as it was, and a total is 0
+-- the reply of a call that is refused by n and gives so many hits
 abbrev pub refusedBy : Call → ℕ → ℕ → Reply
 refusedBy (Fresh cells) n hits = Number n
 refusedBy (Report id x y vx vy minute expiry) n hits = Number n
@@ -140,25 +140,23 @@ refusedBy (Leaf last) n hits = Given None
 refusedBy (Write bytes) n hits = Bytes n 0 bytes
 refusedBy (Read cells bytes) n hits = Number n
 
--- a call that has changed nothing: table, list and bytes are as they were, and no number is given but its own, and the hits by 10
+-- what is left of a refused call
 pub record ChangesNothing (w : List ℤ) (c : Call) (a : Reply) (v : List ℤ) : Type 0 where
   pub same-table : v ≡ w
+  -- list and bytes come back as they were lent, and a total is 0
   pub same-lent : a ≡ refusedBy c (told a) (hitsTold a)
+  -- and so are the hits, but for 10
   pub no-hits : (told a ≡ 10 → ⊥) → hitsTold a ≡ 0
 
+-- ---- kinds of calls
 -- a query, still or moving, and the list that is lent to it
 pub data IsQuery : Call → Query → List ℤ → Type 0 where
   window : {k : Query} {list : List ℤ} → IsQuery (Window k list) k list
   moving : {k : Query} {list : List ℤ} → IsQuery (Moving k list) k list
 
 -- a call that only reads its table
-abbrev pub OnlyReads : Call → Type 0
-OnlyReads (Fresh cells) = ⊥
-OnlyReads (Report id x y vx vy minute expiry) = ⊥
-OnlyReads (Drop id minute) = ⊥
-OnlyReads (Window k list) = Unit {0}
-OnlyReads (Moving k list) = Unit {0}
-OnlyReads Open = Unit {0}
-OnlyReads (Leaf last) = Unit {0}
-OnlyReads (Write bytes) = Unit {0}
-OnlyReads (Read cells bytes) = ⊥
+pub data OnlyReads : Call → Type 0 where
+  query : {c : Call} {k : Query} {list : List ℤ} → IsQuery c k list → OnlyReads c
+  opening : OnlyReads Open
+  step : {last : ℤ} → OnlyReads (Leaf last)
+  writing : {bytes : List ℕ} → OnlyReads (Write bytes)

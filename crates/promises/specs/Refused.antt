@@ -10,7 +10,7 @@ use Rattle.query.specs.Queried.{answerNumber, answerHits, reasons}
 use Rattle.query.specs.QueriedLaws.{refused-hits}
 use Rattle.writing.specs.Written.{writtenNumber}
 use Rattle.writing.specs.WrittenLaws.{refused-total}
-use Rattle.promises.specs.Calls.{Call, Fresh, Report, Drop, Window, Moving, Open, Leaf, Write, Read, Reply, Number, Listed, Bytes, told, hitsTold, Asked, Wrote, Happens, reasonsOf, refusedBy, ChangesNothing, OnlyReads}
+use Rattle.promises.specs.Calls.{Call, Fresh, Report, Drop, Window, Moving, Open, Leaf, Write, Read, Reply, Number, Listed, Bytes, told, hitsTold, Asked, Wrote, Happens, reasonsOf, refusedBy, ChangesNothing, window, moving, OnlyReads, query, opening, step, writing}
 
 -- ---- the number is the first of the call's reasons that holds
 pub call-number : (w : List ℤ) (c : Call) (a : Reply) (v : List ℤ) → Happens w c a v → First (reasonsOf w c) (told a)
@@ -25,16 +25,12 @@ call-number w (Write bytes) a v h = rw (h .reply) (h .writes .refusal)
 call-number w (Read cells bytes) a v h = rw (h .reply) (h .reads .refusal)
 
 -- ---- a call that only reads leaves its table as it was
-pub only-reads : {w : List ℤ} (c : Call) (a : Reply) {v : List ℤ} → OnlyReads c → Happens w c a v → v ≡ w
-only-reads (Window k list) a only h = h .unchanged
-only-reads (Moving k list) a only h = h .unchanged
-only-reads Open a only h = h .unchanged
-only-reads (Leaf last) a only h = h .unchanged
-only-reads (Write bytes) a only h = h .unchanged
-only-reads (Fresh cells) a only h = absurd only
-only-reads (Report id x y vx vy minute expiry) a only h = absurd only
-only-reads (Drop id minute) a only h = absurd only
-only-reads (Read cells bytes) a only h = absurd only
+pub only-reads : {w : List ℤ} {c : Call} (a : Reply) {v : List ℤ} → OnlyReads c → Happens w c a v → v ≡ w
+only-reads a (query window) h = h .unchanged
+only-reads a (query moving) h = h .unchanged
+only-reads a opening h = h .unchanged
+only-reads a step h = h .unchanged
+only-reads a writing h = h .unchanged
 
 -- ---- a refused call changes nothing
 module _ {w : List ℤ} (c : Call) (a : Reply) {v : List ℤ} (refused : told a ≡ 0 → ⊥) where

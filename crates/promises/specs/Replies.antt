@@ -1,10 +1,10 @@
--- What replies tell: the list of an accepted query, the hits where there are too many, and sheets there and back.
-use mathlib.Core.Path.{_≡_, sym, ap, ap₂, _∙_}
+-- What replies tell: the list of an accepted query, the hits where there are too many, sheets there and back; and replies in the numbers that a caller has.
+use mathlib.Core.Path.{_≡_, refl, sym, ap, ap₂, _∙_}
 use mathlib.Core.Logic.{_↔_}
 use mathlib.Core.List.{List, [], _++_}
 use Prim.Native.Nat.{ℕ, _≤_}
 use native.Mathlib.Omega.{arith}
-use lib.IntN.{ℤ}
+use lib.IntN.{ℤ, pos, natAbs}
 use lib.ListN.{length, take, drop}
 use Rattle.words.specs.Words.{natOf}
 use Rattle.track.specs.declared.cell.Cell.{Cell}
@@ -12,12 +12,16 @@ use Rattle.track.specs.declared.query.Query.{Query}
 use Rattle.table.specs.Header.{IsCapacity, clock, wordsFor}
 use Rattle.table.specs.Sound.{Sound, Live}
 use Rattle.query.specs.Queried.{answerNumber, answerHits}
+use Rattle.query.specs.QueriedLaws.{refused-opened}
+use Rattle.query.specs.Opened.{openedNodes}
 use Rattle.query.specs.Hits.{Hits}
 use Rattle.sheet.specs.Bytes.{AreBytes}
 use Rattle.sheet.specs.Sheet.{totalFor}
-use Rattle.writing.specs.Written.{writtenTotal}
+use Rattle.writing.specs.Written.{writtenNumber, writtenTotal}
 use Rattle.reading.specs.ThereAndBack.{sheet-back-again, table-back-again}
-use Rattle.promises.specs.Calls.{Call, Window, Moving, Write, Read, Reply, Number, Listed, Given, Bytes, told, Asked, Happens, IsQuery, window, moving}
+use Rattle.calls.specs.Tables.{QueryGives}
+use Rattle.calls.specs.Sheets.{WriteGives}
+use Rattle.promises.specs.Calls.{Call, Write, Read, Reply, Number, Listed, Given, Bytes, told, Asked, Wrote, Happens, IsQuery, window, moving}
 
 -- ---- queries
 module _ {w : List ℤ} {B : Type 0} {k : Query} {list : List ℤ} {a : Reply} {v : List ℤ} (h : Asked w B k list a v) where
@@ -35,7 +39,7 @@ module _ {w : List ℤ} {B : Type 0} {k : Query} {list : List ℤ} {a : Reply} {
       let same = h .queried .unchanged (λ z. omega (arith, number-is e)) in
       (c .ids, c .hits, h .reply ∙ ap (λ n. Listed n (answerHits (h .answer)) (h .list′)) (number-is e) ∙ ap₂ (Listed 10) (c .hit-count) same)
 
-module _ {w : List ℤ} {k : Query} {list : List ℤ} (a : Reply) (v : List ℤ) where
+module _ {w : List ℤ} {k : Query} {list : List ℤ} {a : Reply} (v : List ℤ) where
   pub query-lists : {c : Call} → IsQuery c k list → Happens w c a v → told a ≡ 0 → (ids : List ℤ) × Hits w k ids × (a ≡ Listed 0 (length ids) (ids ++ drop (length ids) list))
   query-lists window h e = asked-lists h e
   query-lists moving h e = asked-lists h e
@@ -71,3 +75,27 @@ pub read-back : {w v u : List ℤ} {cells : ℤ} {bytes buffer : List ℕ} {a : 
 read-back small h room g =
     let back = sheet-back-again small (h .reads) (sym (ap told (h .reply))) room (g .writes) in
     g .reply ∙ ap (λ (n : ℕ). Bytes n (writtenTotal (g .written)) (g .bytes′)) (back .0) ∙ ap₂ (Bytes 0) (back .1) (back .2)
+
+-- ---- replies in the numbers that a caller has
+pub asked-in-numbers : {w : List ℤ} {B : Type 0} {k : Query} {list : List ℤ} {r hits opened : ℤ} {list′ : List ℤ} → QueryGives w B k list r hits opened list′
+    → (n : ℕ) × (h : ℕ) × (r ≡ pos n) × (hits ≡ pos h) × Asked w B k list (Listed n h list′) w
+asked-in-numbers {list′} g =
+    let a = g .answer in
+    let n = g .in-numbers in
+    (answerNumber a, answerHits a, n .number-is, n .hits-is, record { answer = a; list′ = list′; reply = refl; queried = g .queried; unchanged = refl })
+
+pub wrote-in-numbers : {w : List ℤ} {bytes bytes′ : List ℕ} {r total : ℤ} → WriteGives w bytes r total bytes′
+    → (n : ℕ) × (t : ℕ) × (r ≡ pos n) × (total ≡ pos t) × Wrote w bytes (Bytes n t bytes′) w
+wrote-in-numbers {bytes′} g =
+    let a = g .written in
+    let n = g .in-numbers in
+    (writtenNumber a, writtenTotal a, n .number-is, n .total-is, record { written = a; bytes′ = bytes′; reply = refl; writes = g .writes; unchanged = refl })
+
+-- the count of opened nodes, which is no part of a reply
+pub opened-is : {w : List ℤ} {B : Type 0} {k : Query} {list : List ℤ} {r hits opened : ℤ} {list′ : List ℤ} → QueryGives w B k list r hits opened list′
+    → (r ≡ pos 0 → opened ≡ pos (length (openedNodes w k))) × ((r ≡ pos 0 → ⊥) → opened ≡ pos 0)
+opened-is g =
+    let n = g .in-numbers in (
+      λ e. n .opened-is ∙ ap pos (g .queried .accepted (ap natAbs (sym (n .number-is) ∙ e)) .opened-count),
+      λ refused. n .opened-is ∙ ap pos (refused-opened (g .answer) (λ e. refused (n .number-is ∙ ap pos e))),
+    )

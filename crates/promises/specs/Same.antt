@@ -1,14 +1,14 @@
 -- Two tables of one capacity and length that have the same clock and live cells give the same replies to every run of calls, and have the same clock and
--- live cells after it. So every reply is a function of the model, the capacity, the length and what is given to the call.
+-- live cells after it.
 use mathlib.Core.Path.{_≡_, refl, sym, ap, ap₂, _∙_, subst}
-use mathlib.Core.Logic.{_⊎_, _↔_, inl, inr, ⊎-elim}
+use mathlib.Core.Logic.{_↔_, inl, inr, ⊎-elim}
 use mathlib.Core.List.{List, _∷_, _++_}
 use Prim.Native.Nat.{ℕ, _<_}
 use native.Mathlib.Decide.{ℕ-discrete}
 use native.Mathlib.Omega.{arith}
 use lib.IntN.{ℤ}
 use lib.ListN.{length, drop}
-use lib.Signed.{_≤ℤ_, _<ℤ_}
+use lib.Signed.{_≤ℤ_}
 use Rattle.whole.specs.Order.{≤ℤ-or-<ℤ}
 use Rattle.words.specs.Words.{natOf}
 use Rattle.track.specs.Refusals.{First, first-fixed, first-as}
@@ -195,11 +195,6 @@ run-alike a long (one-call {c} {a = x} p run) (one-call {a = y} q again) =
     let here = call-alike a long c x y p q in
     let rest = run-alike (here .1) (call-size c x p .as-long ∙ long ∙ sym (call-size c y q .as-long)) run again in
     (ap₂ _∷_ (here .0) (rest .0), rest .1)
-
--- the reply is a function of the model, the capacity, the length and what is given to the call
-pub reply-fixed : {m : Model} {w v : List ℤ} → Together m w → Together m v → capacityWord w ≡ capacityWord v → length w ≡ length v
-    → (c : Call) (x y : Reply) (w′ v′ : List ℤ) → Happens w c x w′ → Happens v c y v′ → x ≡ y
-reply-fixed s t cells long c x y w′ v′ p q = call-alike (model-alike cells s t) long c x y p q .0
 
 -- ---- tables that runs reach
 -- from two starts, where clock, live cells and capacity have come out the same

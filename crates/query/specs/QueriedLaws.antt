@@ -31,7 +31,7 @@ found-same h o = ap₂ make h o
     make hits opened = record { hits = hits; opened = opened }
 
 -- ---- what a refusal counts
-refused-opened : (r : Answer) → (answerNumber r ≡ 0 → ⊥) → answerOpened r ≡ 0
+pub refused-opened : (r : Answer) → (answerNumber r ≡ 0 → ⊥) → answerOpened r ≡ 0
 refused-opened (Listed f) n = absurd (n refl)
 refused-opened (TooMany m) n = refl
 refused-opened (Refused x) n = refl
