@@ -12,18 +12,12 @@ use Rattle.whole.specs.Lists.{_∈_}
 use Rattle.table.specs.Header.{clock}
 use Rattle.table.specs.Sound.{Sound, Live}
 use Rattle.table.specs.SoundBy.{held-in}
-use Rattle.sheet.specs.Sheet.{headerBytes, mostCells, totalFor, sheetOf, clockOf, cellsOf}
+use Rattle.sheet.specs.Sheet.{headerBytes, mostCells, totalFor, sheetOf, cellsOf}
 use Rattle.sheet.specs.SheetLaws.{length-sheetOf, clock-of-sheet, cells-of-sheet, sheet-sound}
-use Rattle.sheet.specs.WellFormed.{CellsSound, SheetSound}
+use Rattle.sheet.specs.WellFormed.{CellsSound}
 use Rattle.leafing.specs.Leafed.{LiveCells}
 use Rattle.leafing.specs.LiveCellsLaws.{live-few}
-use Rattle.writing.specs.Written.{Writes}
-
--- what bytes say where they are a sheet of this table
-pub record SheetOfTable (w : List ℤ) (sheet : List ℕ) : Type 0 where
-  pub well-formed : SheetSound mostCells sheet
-  pub clock-is : clockOf sheet ≡ clock w
-  pub live : LiveCells w (cellsOf sheet)
+use Rattle.writing.specs.Written.{Writes, SheetOfTable}
 
 -- the live cells of a sound table may stand on a sheet
 pub live-sound : {w : List ℤ} {cells : List Cell} → Sound w → LiveCells w cells → CellsSound (clock w) cells

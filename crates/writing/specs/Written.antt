@@ -8,7 +8,8 @@ use Rattle.track.specs.Refusals.{Reason, _when_, First, number}
 use Rattle.track.specs.declared.cell.Cell.{Cell}
 use Rattle.table.specs.Header.{clock}
 use Rattle.table.specs.Sound.{Sound}
-use Rattle.sheet.specs.Sheet.{totalFor, sheetOf}
+use Rattle.sheet.specs.Sheet.{mostCells, totalFor, sheetOf, clockOf, cellsOf}
+use Rattle.sheet.specs.WellFormed.{SheetSound}
 use Rattle.leafing.specs.Leafed.{LiveCells}
 use Rattle.writing.specs.declared.Written.{Written}
 use Rattle.writing.specs.declared.Written.the-variants.{Total, Refused}
@@ -41,6 +42,12 @@ pub record Writes (w : List ℤ) (bytes : List ℕ) (total : ℕ) (bytes′ : Li
   pub live : LiveCells w cells
   pub total-is : total ≡ totalFor (length cells)
   pub written : bytes′ ≡ sheetOf (clock w) cells ++ drop total bytes
+
+-- what bytes say where they are a sheet of this table: a well-formed sheet of its clock and its live cells
+pub record SheetOfTable (w : List ℤ) (sheet : List ℕ) : Type 0 where
+  pub well-formed : SheetSound mostCells sheet
+  pub clock-is : clockOf sheet ≡ clock w
+  pub live : LiveCells w (cellsOf sheet)
 
 -- the answer and the bytes that the call leaves
 pub record WritesSheet (w : List ℤ) (bytes : List ℕ) (r : Written) (bytes′ : List ℕ) : Type 0 where
