@@ -33,7 +33,7 @@ use Rattle.alike.specs.Alike.{Alike}
 use Rattle.alike.specs.AlikeLaws.{hits-too, query-number, report-alike, drop-alike, fresh-alike, reports-change-places}
 use Rattle.promises.specs.Calls.{Call, Fresh, Report, Drop, Window, Moving, Open, Leaf, Write, Read, Reply, Number, Listed, Given, Bytes, told, WasMade, Reported, Asked, Opened, Leafed, Wrote, WasRead, Happens, Run, no-call, one-call}
 use Rattle.promises.specs.Model.{Model, Together, Start}
-use Rattle.promises.specs.Together.{start-together, run-together, call-size}
+use Rattle.promises.specs.Together.{read-together, start-together, run-together, call-size}
 
 -- two tables that go together with one model, of one capacity, are alike
 pub model-alike : {m : Model} {w v : List ℤ} → capacityWord w ≡ capacityWord v → Together m w → Together m v → Alike w v
@@ -154,8 +154,10 @@ module _ {w v : List ℤ} (a : Alike w v) (long : length w ≡ length v) (cells 
           (q .makes .refusal)
 
   read-alike : {bytes : List ℕ} {x y : Reply} {w′ v′ : List ℤ} → WasRead w cells bytes x w′ → WasRead v cells bytes y v′ → (x ≡ y) × Alike w′ v′
-  read-alike {bytes} {x} {y} {w′} {v′} p q =
-      (p .reply ∙ ap Number same ∙ sym (q .reply), alike-by a same (λ e f. both (p .reads .accepted e) (q .reads .accepted f)) (p .reads .refused) (q .reads .refused))
+  read-alike {bytes} {w′} {v′} p q = (
+    p .reply ∙ ap Number same ∙ sym (q .reply),
+    alike-by a same (λ e f. both (p .reads .accepted e) (q .reads .accepted f)) (p .reads .refused) (q .reads .refused),
+  )
     where
       same : outcomeNumber (p .outcome) ≡ outcomeNumber (q .outcome)
       same =
@@ -166,16 +168,7 @@ module _ {w v : List ℤ} (a : Alike w v) (long : length w ≡ length v) (cells 
           (q .reads .refusal)
 
       both : IsRead cells w bytes w′ → IsRead cells v bytes v′ → Alike w′ v′
-      both r s = record {
-        sound = r .sound;
-        sound′ = s .sound;
-        capacity-is = r .capacity-is ∙ sym (s .capacity-is);
-        clock-is = r .clock-is ∙ sym (s .clock-is);
-        live = λ c. (
-          λ l. record { is-held = s .holds c .1 (r .holds c .0 (l .is-held)); in-life = rw (r .clock-is ∙ sym (s .clock-is)) at (l .in-life) },
-          λ l. record { is-held = r .holds c .1 (s .holds c .0 (l .is-held)); in-life = rw (s .clock-is ∙ sym (r .clock-is)) at (l .in-life) },
-        );
-      }
+      both r s = model-alike (r .capacity-is ∙ sym (s .capacity-is)) (read-together r) (read-together s)
 
 -- ---- any call, and any run of calls
 pub call-alike : {w v : List ℤ} → Alike w v → length w ≡ length v → (c : Call) (x y : Reply) {w′ v′ : List ℤ} → Happens w c x w′ → Happens v c y v′ → (x ≡ y) × Alike w′ v′

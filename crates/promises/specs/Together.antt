@@ -86,7 +86,7 @@ fresh-together f = record {
   live = λ c. (λ l. absurd (List·Memᴰ·not-nil (rw (f .none-held) at (l .is-held))), λ l. absurd (List·Memᴰ·not-nil (l .is-left)));
 }
 
-read-together : {cells : ℤ} {w v : List ℤ} {bytes : List ℕ} → IsRead cells w bytes v → Together (ofSheet bytes) v
+pub read-together : {cells : ℤ} {w v : List ℤ} {bytes : List ℕ} → IsRead cells w bytes v → Together (ofSheet bytes) v
 read-together r = record {
   sound = r .sound;
   clock-is = r .clock-is;

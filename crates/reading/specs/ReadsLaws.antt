@@ -28,11 +28,6 @@ pub record CanRead (cells : ℤ) (w : List ℤ) (bytes : List ℕ) : Type 0 wher
   pub well-formed : SheetSound mostCells bytes
   pub few : countOf bytes ≤ natOf cells
 
--- what is found before a word is written: the first refusal, or that all may be read
-pub record Judges (cells : ℤ) (w : List ℤ) (bytes : List ℕ) (r : Outcome) : Type 0 where
-  pub refusal : First (readReasons cells w bytes) (outcomeNumber r)
-  pub can : outcomeNumber r ≡ 0 → CanRead cells w bytes
-
 -- what may be read is not refused
 pub can-accept : {cells : ℤ} {w : List ℤ} {bytes : List ℕ} → CanRead cells w bytes → First (readReasons cells w bytes) 0
 can-accept c =
@@ -41,10 +36,10 @@ can-accept c =
 pub read-done : {cells : ℤ} {w : List ℤ} {bytes : List ℕ} {r : Outcome} {v : List ℤ} → CanRead cells w bytes → ReadsSheet cells w bytes r v → outcomeNumber r ≡ 0
 read-done {cells} {w} {bytes} {r} can p = first-fixed (readReasons cells w bytes) (outcomeNumber r) 0 (p .refusal) (can-accept can)
 
--- and what is accepted may be read
-pub accepted-can : {cells : ℤ} {w : List ℤ} {bytes : List ℕ} {r : Outcome} {v : List ℤ} → ReadsSheet cells w bytes r v → outcomeNumber r ≡ 0 → CanRead cells w bytes
-accepted-can {cells} {w} {bytes} {r} p e =
-    let none = none-holds (readReasons cells w bytes) (outcomeNumber r) (not-zero 1, (not-zero 2, (not-zero 10, (not-zero 8, (not-zero 11, tt))))) (p .refusal) e in
+-- and what is not refused may be read
+pub accepted-can : {cells : ℤ} {w : List ℤ} {bytes : List ℕ} (n : ℕ) → First (readReasons cells w bytes) n → n ≡ 0 → CanRead cells w bytes
+accepted-can {cells} {w} {bytes} n tried e =
+    let none = none-holds (readReasons cells w bytes) n (not-zero 1, (not-zero 2, (not-zero 10, (not-zero 8, (not-zero 11, tt))))) tried e in
     record {
       capacity-in = record { from = ≤ℤ-stable (λ n. none .0 (λ c. n (c .from))); to = ≤ℤ-stable (λ n. none .0 (λ c. n (c .to))) };
       long-enough = omega (arith, none .1 .0);
@@ -53,12 +48,13 @@ accepted-can {cells} {w} {bytes} {r} p e =
     }
 
 -- ---- the ways through the reading
-pub reads-refused : {cells : ℤ} {w : List ℤ} {bytes : List ℕ} {r : Outcome} {why : Refusal} → Judges cells w bytes r → r ≡ Refused why → ReadsSheet cells w bytes r w
-reads-refused {why} j e = record { refusal = j .refusal; accepted = λ z. absurd (refused-not-zero why (sym (ap outcomeNumber e) ∙ z)); refused = λ n. refl }
+module _ {cells : ℤ} {w : List ℤ} {bytes : List ℕ} {r : Outcome} (judged : First (readReasons cells w bytes) (outcomeNumber r)) where
+  pub reads-refused : {why : Refusal} → r ≡ Refused why → ReadsSheet cells w bytes r w
+  reads-refused {why} e = record { refusal = judged; accepted = λ z. absurd (refused-not-zero why (sym (ap outcomeNumber e) ∙ z)); refused = λ n. refl }
 
-pub reads-accepted : {cells : ℤ} {w : List ℤ} {bytes : List ℕ} {r : Outcome} {v : List ℤ} → Judges cells w bytes r → r ≡ Accepted → IsRead cells w bytes v → ReadsSheet cells w bytes Accepted v
-reads-accepted {cells} {w} {bytes} j e read =
-    record { refusal = subst (λ (s : Outcome). First (readReasons cells w bytes) (outcomeNumber s)) e (j .refusal); accepted = λ z. read; refused = λ n. absurd (n refl) }
+  pub reads-accepted : {v : List ℤ} → r ≡ Accepted → IsRead cells w bytes v → ReadsSheet cells w bytes Accepted v
+  reads-accepted e read =
+      record { refusal = subst (λ (s : Outcome). First (readReasons cells w bytes) (outcomeNumber s)) e judged; accepted = λ z. read; refused = λ n. absurd (n refl) }
 
 -- a fresh table is made of words into which a sheet may be read
 pub fresh-made : {cells : ℤ} {w : List ℤ} {bytes : List ℕ} {n : ℕ} {v : List ℤ} → CanRead cells w bytes → MakesFresh cells w n v → IsFresh cells w v

@@ -61,9 +61,10 @@ module _ {w : List ℤ} (sound : Sound w) {buffer : List ℕ} {total : ℕ} {buf
 pub sheet-back-again : {cells : ℤ} {w : List ℤ} {bytes : List ℕ} {r : Outcome} {v : List ℤ} {buffer : List ℕ} {s : Written} {buffer′ : List ℕ} → AreBytes bytes
     → ReadsSheet cells w bytes r v → outcomeNumber r ≡ 0 → length bytes ≤ length buffer → WritesSheet v buffer s buffer′
     → (writtenNumber s ≡ 0) × (writtenTotal s ≡ length bytes) × (buffer′ ≡ bytes ++ drop (length bytes) buffer)
-sheet-back-again {bytes} {buffer} small read accepted room p =
+sheet-back-again {cells} {w} {bytes} {r} small read accepted room p =
     let is = read .accepted accepted in
-    let sheet = accepted-can read accepted .well-formed in
+    let can : CanRead cells w bytes = accepted-can (outcomeNumber r) (read .refusal) accepted in
+    let sheet = can .well-formed in
     let live = read-live (sheet .records) is in
     let many = length-cellsFrom bytes 0 (countOf bytes) in
     let done = write-accepted (is .sound) live (omega (arith, many, length-is bytes small mostCells (sheet .header))) p in

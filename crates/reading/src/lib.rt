@@ -13,13 +13,15 @@ use tree::header::set_clock;
 use tree::outcome::Outcome;
 use tree::root::put_cell;
 use words::place;
-ghost use Rattle.reading.specs.Reads.{IsRead, ReadsSheet};
-ghost use Rattle.reading.specs.ReadsLaws.{CanRead, Judges};
+ghost use Rattle.track.specs.Refusals.{First};
+ghost use Rattle.tree.specs.Steps.{outcomeNumber};
+ghost use Rattle.reading.specs.Reads.{readReasons, IsRead, ReadsSheet};
+ghost use Rattle.reading.specs.ReadsLaws.{CanRead};
 ghost use Rattle.reading.specs.Filling.{CanFill, Filled};
 
 // Whether these bytes can be read into these words as a table for so many cells. All is judged before a word is written, so a refusal leaves the words alone.
-pub fn judge(t: &[i32], cells: i32, bytes: &[u8]) -> Outcome
-    ensures { λ r. ⌜ Judges cells (now (t .entry)) (now (bytes .entry)) r ⌝ }
+fn judge(t: &[i32], cells: i32, bytes: &[u8]) -> Outcome
+    ensures { λ r. ⌜ First (readReasons cells (now (t .entry)) (now (bytes .entry))) (outcomeNumber r) ⌝ }
 {
     if !is_capacity(cells) {
         return Outcome::Refused(Refusal::BadCapacity);

@@ -6,7 +6,6 @@ use lib.ListN.{length}
 use Rattle.whole.specs.Within.{back}
 use Rattle.whole.specs.Tells.{Tells, passed-not, failed-not}
 use Rattle.words.specs.Words.{natOf}
-use Rattle.track.specs.Refusals.{not-zero}
 use Rattle.table.specs.Header.{IsCapacity, wordsFor}
 use Rattle.table.specs.HeaderLaws.{capacity-low}
 use Rattle.sheet.specs.Sheet.{mostCells, countOf}
@@ -43,7 +42,7 @@ is-capacity-requires : tie.Need-is-capacity-requires
 is-capacity-requires c κs = search needs
 
 returns : tie.Need-returns
-returns c = record { refusal = inl (failed-not (told (c .before)) (c .if1 .taken), refl); can = not-zero 1 }
+returns c = inl (failed-not (told (c .before)) (c .if1 .taken), refl)
 
 place-requires : tie.Need-place-requires
 place-requires c κs = search needs
@@ -52,7 +51,7 @@ words-for-requires : tie.Need-words-for-requires
 words-for-requires c κs = omega (arith, count-is c, capacity-low (capacity-in (c .before)))
 
 returns-2 : tie.Need-returns-2
-returns-2 c = record { refusal = inr (λ f. f (capacity-in (c .before .before .before)), inl (omega (arith, need-is (c .before), c .if2 .taken), refl)); can = not-zero 2 }
+returns-2 c = inr (λ f. f (capacity-in (c .before .before .before)), inl (omega (arith, need-is (c .before), c .if2 .taken), refl))
 
 header-sound-requires : tie.Need-header-sound-requires
 header-sound-requires c κs = search needs
@@ -60,10 +59,7 @@ header-sound-requires c κs = search needs
 returns-3 : tie.Need-returns-3
 returns-3 c =
     let enough = long-enough (c .before .before) in
-    record {
-      refusal = inr (λ f. f (capacity-in (c .before .before .before .before .before)), inr (λ short. omega arith, inl (failed-not (c .before .header-sound .ensures) (c .if3 .taken), refl)));
-      can = not-zero 10;
-    }
+    inr (λ f. f (capacity-in (c .before .before .before .before .before)), inr (λ short. omega arith, inl (failed-not (c .before .header-sound .ensures) (c .if3 .taken), refl)))
 
 count-of-requires : tie.Need-count-of-requires
 count-of-requires c κs = search needs
@@ -71,20 +67,16 @@ count-of-requires c κs = search needs
 returns-4 : tie.Need-returns-4
 returns-4 c =
     let enough = long-enough (c .before .before .before .before) in
-    record {
-      refusal =
-          inr (
-            λ f. f (capacity-in (c .before .before .before .before .before .before .before)),
-            inr (
-              λ short. omega arith,
-              inr (
-                λ f. f (header (c .before .before)),
-                inl (omega (arith, count-is (c .before .before .before .before .before .before), c .before .count-of .ensures .0, c .if4 .taken), refl),
-              ),
-            ),
-          );
-      can = not-zero 8;
-    }
+    inr (
+      λ f. f (capacity-in (c .before .before .before .before .before .before .before)),
+      inr (
+        λ short. omega arith,
+        inr (
+          λ f. f (header (c .before .before)),
+          inl (omega (arith, count-is (c .before .before .before .before .before .before), c .before .count-of .ensures .0, c .if4 .taken), refl),
+        ),
+      ),
+    )
 
 records-sound-requires : tie.Need-records-sound-requires
 records-sound-requires c κs = search needs
@@ -93,23 +85,19 @@ returns-5 : tie.Need-returns-5
 returns-5 c =
     let enough = long-enough (c .before .before .before .before .before .before) in
     let low = few (c .before .before) in
-    record {
-      refusal =
+    inr (
+      λ f. f (capacity-in (c .before .before .before .before .before .before .before .before .before)),
+      inr (
+        λ short. omega arith,
+        inr (
+          λ f. f (header (c .before .before .before .before)),
           inr (
-            λ f. f (capacity-in (c .before .before .before .before .before .before .before .before .before)),
-            inr (
-              λ short. omega arith,
-              inr (
-                λ f. f (header (c .before .before .before .before)),
-                inr (
-                  λ many. omega arith,
-                  inl (failed-not (c .before .records-sound .ensures) (c .if5 .taken), refl),
-                ),
-              ),
-            ),
-          );
-      can = not-zero 11;
-    }
+            λ many. omega arith,
+            inl (failed-not (c .before .records-sound .ensures) (c .if5 .taken), refl),
+          ),
+        ),
+      ),
+    )
 
 may : (c : tie.Else5) → let a = c .before .before .before .before .before .before .before .before .before .before .before .before .args in CanRead (a .cells) (a .t .now) (a .bytes .now)
 may c = record {
@@ -120,7 +108,7 @@ may c = record {
 }
 
 returns-6 : tie.Need-returns-6
-returns-6 c = record { refusal = can-accept (may c); can = λ e. may c }
+returns-6 c = can-accept (may c)
 
 pub judge-spec : {M : Type 1} → statement M
 judge-spec =

@@ -1,12 +1,14 @@
 use Rattle.whole.specs.Within.{back}
-use Rattle.reading.specs.ReadsLaws.{Judges, reads-refused, reads-accepted}
+use Rattle.reading.specs.ReadsLaws.{accepted-can, reads-refused, reads-accepted}
 use mathlib.Core.Path.{ap}
+use Rattle.track.specs.Refusals.{First}
+use Rattle.reading.specs.Reads.{readReasons}
 use Rattle.tree.specs.Steps.{outcomeNumber}
 use borrow.Author.Needs.{needs}
 use Rattle.reading.proofs.read_sheet.Statement.{statement}
 use Rattle.reading.proofs.read_sheet.Tie as tie
 
-judged : (c : tie.After-judge) → let a = c .before .before .before .args in Judges (a .cells) (a .t .now) (a .bytes .now) (c .judge .result)
+judged : (c : tie.After-judge) → let a = c .before .before .before .args in First (readReasons (a .cells) (a .t .now) (a .bytes .now)) (outcomeNumber (c .judge .result))
 judged c = simp (back (c .before .before .before .fits .cells)) at (c .judge .ensures)
 
 judge-requires : tie.Need-judge-requires
@@ -27,7 +29,7 @@ returns c = reads-refused (judged (c .before .before)) (c .enum-told2 .given .1)
 replace-requires : tie.Need-replace-requires
 replace-requires c κs =
     let j = judged (c .before .before .before) in
-    rw (back (c .before .before .before .before .before .before .fits .cells)) (j .can (ap outcomeNumber (c .before .enum-told .given .1)))
+    rw (back (c .before .before .before .before .before .before .fits .cells)) (accepted-can (outcomeNumber (c .before .before .before .judge .result)) j (ap outcomeNumber (c .before .enum-told .given .1)))
 
 same-length-2 : tie.Need-same-length-2
 same-length-2 c = search needs
