@@ -42,7 +42,7 @@ first-if (k when P ∷ rs) (l when Q ∷ ss) n s (inr h) = inr (λ q. h .0 (s .1
 always : {P : Type 0} → P ↔ P
 always = (λ p. p, λ p. p)
 
-not-before : {a b : ℤ} → (a <ℤ b → ⊥) → b ≤ℤ a
+pub not-before : {a b : ℤ} → (a <ℤ b → ⊥) → b ≤ℤ a
 not-before {a} {b} h = ⊎-elim (λ le. le) (λ lt. absurd (h lt)) (≤ℤ-or-<ℤ b a)
 
 -- what meets a query lives at its start
@@ -191,7 +191,7 @@ module _ {w v : List ℤ} (a : Alike w v) where
       )
 
 -- ---- the tables afterwards
-still-alike : {w v w′ v′ : List ℤ} → Alike w v → w′ ≡ w → v′ ≡ v → Alike w′ v′
+pub still-alike : {w v w′ v′ : List ℤ} → Alike w v → w′ ≡ w → v′ ≡ v → Alike w′ v′
 still-alike a e f = rw (e, f) a
 
 step-alike : {w v w′ v′ : List ℤ} {minute : ℤ} {L M : Cell → Type 0} → Alike w v → Step w w′ minute L → Step v v′ minute M → ((c : Cell) → L c ↔ M c) → Alike w′ v′

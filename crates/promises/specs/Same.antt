@@ -1,7 +1,7 @@
 -- Two tables of one capacity and length that have the same clock and live cells give the same replies to every run of calls, and have the same clock and
 -- live cells after it.
 use mathlib.Core.Path.{_≡_, refl, sym, ap, ap₂, _∙_, subst}
-use mathlib.Core.Logic.{_↔_, inl, inr, ⊎-elim}
+use mathlib.Core.Logic.{_↔_, Iff·rfl, inl, inr}
 use mathlib.Core.List.{List, _∷_, _++_}
 use Prim.Native.Nat.{ℕ, _<_}
 use native.Mathlib.Decide.{ℕ-discrete}
@@ -9,7 +9,6 @@ use native.Mathlib.Omega.{arith}
 use lib.IntN.{ℤ}
 use lib.ListN.{length, drop}
 use lib.Signed.{_≤ℤ_}
-use Rattle.whole.specs.Order.{≤ℤ-or-<ℤ}
 use Rattle.words.specs.Words.{natOf}
 use Rattle.track.specs.Refusals.{First, first-fixed, first-as}
 use Rattle.track.specs.declared.cell.Cell.{Cell}
@@ -30,7 +29,7 @@ use Rattle.writing.specs.WrittenLaws.{written-same}
 use Rattle.reading.specs.Reads.{readReasons, IsRead}
 use Rattle.tree.specs.Steps.{outcomeNumber, ReportSteps}
 use Rattle.alike.specs.Alike.{Alike}
-use Rattle.alike.specs.AlikeLaws.{hits-too, query-number, report-alike, drop-alike, fresh-alike, reports-change-places}
+use Rattle.alike.specs.AlikeLaws.{not-before, still-alike, hits-too, query-number, report-alike, drop-alike, fresh-alike, reports-change-places}
 use Rattle.promises.specs.Calls.{Call, Fresh, Report, Drop, Window, Moving, Open, Leaf, Write, Read, Reply, Number, Listed, Given, Bytes, told, WasMade, Reported, Asked, Opened, Leafed, Wrote, WasRead, Happens, Run, no-call, one-call}
 use Rattle.promises.specs.Model.{Model, Together, Start}
 use Rattle.promises.specs.Together.{read-together, start-together, run-together, call-size}
@@ -45,12 +44,6 @@ model-alike cells s t = record {
   live = λ c. (λ l. t .live c .1 (s .live c .0 l), λ l. s .live c .1 (t .live c .0 l));
 }
 
-always : {P : Type 0} → P ↔ P
-always = (λ p. p, λ p. p)
-
-same-alike : {w v w′ v′ : List ℤ} → w′ ≡ w → v′ ≡ v → Alike w v → Alike w′ v′
-same-alike e f a = rw (e, f) a
-
 -- ---- a query
 module _ {w v : List ℤ} (a : Alike w v) (B : Type 0) (k : Query) (list : List ℤ) where
   -- one whose number is none of 1, 4 and 5 starts at or after the clock
@@ -58,7 +51,7 @@ module _ {w v : List ℤ} (a : Alike w v) (B : Type 0) (k : Query) (list : List 
   late n p q r (inl h) = absurd (p (h .1))
   late n p q r (inr (s, inl h)) = absurd (q (h .1))
   late n p q r (inr (s, inr (o, inl h))) = absurd (r (h .1))
-  late n p q r (inr (s, inr (o, inr (l, h)))) = ⊎-elim (λ le. le) (λ lt. absurd (l lt)) (≤ℤ-or-<ℤ (clock w) (k .start .at))
+  late n p q r (inr (s, inr (o, inr (l, h)))) = not-before l
 
   module _ {r s : Answer} {list′ list″ : List ℤ} (p : Queried w B k list r list′) (q : Queried v B k list s list″) where
     number-same : answerNumber r ≡ answerNumber s
@@ -100,7 +93,7 @@ module _ {w v : List ℤ} (a : Alike w v) (B : Type 0) (k : Query) (list : List 
   asked-alike p q =
       let same = queried-alike (p .queried) (q .queried) in (
         p .reply ∙ ap (λ (n : ℕ). Listed n (answerHits (p .answer)) (p .list′)) (same .0) ∙ ap₂ (Listed (answerNumber (q .answer))) (same .1) (same .2) ∙ sym (q .reply),
-        same-alike (p .unchanged) (q .unchanged) a,
+        still-alike a (p .unchanged) (q .unchanged),
       )
 
 -- ---- a step of the leafing looks at the live cells alone
@@ -111,19 +104,19 @@ next-as same last None n = λ c q. n c (same c .1 q)
 leafed-alike : {w v : List ℤ} {last : ℤ} {x y : Reply} {w′ v′ : List ℤ} → Alike w v → Leafed w last x w′ → Leafed v last y v′ → (x ≡ y) × Alike w′ v′
 leafed-alike {last} a p q =
     let there = steps-sound (a .sound′) last (p .next) (next-as (a .live) last (p .next) (p .steps .sound (a .sound))) in
-    (p .reply ∙ ap Given (steps-fixed (p .next) (q .next) there (q .steps)) ∙ sym (q .reply), same-alike (p .unchanged) (q .unchanged) a)
+    (p .reply ∙ ap Given (steps-fixed (p .next) (q .next) there (q .steps)) ∙ sym (q .reply), still-alike a (p .unchanged) (q .unchanged))
 
 -- ---- the sheet depends on the clock and the live cells alone
 wrote-alike : {w v : List ℤ} {bytes : List ℕ} {x y : Reply} {w′ v′ : List ℤ} → Alike w v → Wrote w bytes x w′ → Wrote v bytes y v′ → (x ≡ y) × Alike w′ v′
 wrote-alike a p q =
     let same = written-same (a .clock-is) (a .live) (λ s. a .sound′, λ s. a .sound) (p .writes) (q .writes) in (
       p .reply ∙ ap₂ (λ r b. Bytes (writtenNumber r) (writtenTotal r) b) (same .0) (same .1) ∙ sym (q .reply),
-      same-alike (p .unchanged) (q .unchanged) a,
+      still-alike a (p .unchanged) (q .unchanged),
     )
 
 -- ---- an opening looks at nothing but soundness
 opened-alike : {w v : List ℤ} {x y : Reply} {w′ v′ : List ℤ} → Alike w v → Opened w x w′ → Opened v y v′ → (x ≡ y) × Alike w′ v′
-opened-alike {w} {v} a p q = (p .reply ∙ ap Number same ∙ sym (q .reply), same-alike (p .unchanged) (q .unchanged) a)
+opened-alike {w} {v} a p q = (p .reply ∙ ap Number same ∙ sym (q .reply), still-alike a (p .unchanged) (q .unchanged))
   where
     same : p .number ≡ q .number
     same =
@@ -138,7 +131,7 @@ alike-by {w′} {v′} {m} a same done left left′ = by (ℕ-discrete m 0)
   where
     by : Dec (m ≡ 0) → Alike w′ v′
     by (yes e) = done e (sym same ∙ e)
-    by (no h) = same-alike (left h) (left′ (λ e. h (same ∙ e))) a
+    by (no h) = still-alike a (left h) (left′ (λ e. h (same ∙ e)))
 
 module _ {w v : List ℤ} (a : Alike w v) (long : length w ≡ length v) (cells : ℤ) where
   short-alike : (length w < wordsFor (natOf cells)) ↔ (length v < wordsFor (natOf cells))
@@ -150,7 +143,7 @@ module _ {w v : List ℤ} (a : Alike w v) (long : length w ≡ length v) (cells 
       same : p .number ≡ q .number
       same =
           first-fixed (freshReasons cells v) (p .number) (q .number)
-          (first-as (freshReasons cells w) (freshReasons cells v) (p .number) (refl, always, (refl, short-alike, tt)) (p .makes .refusal))
+          (first-as (freshReasons cells w) (freshReasons cells v) (p .number) (refl, Iff·rfl, (refl, short-alike, tt)) (p .makes .refusal))
           (q .makes .refusal)
 
   read-alike : {bytes : List ℕ} {x y : Reply} {w′ v′ : List ℤ} → WasRead w cells bytes x w′ → WasRead v cells bytes y v′ → (x ≡ y) × Alike w′ v′
@@ -163,7 +156,7 @@ module _ {w v : List ℤ} (a : Alike w v) (long : length w ≡ length v) (cells 
       same =
           first-fixed (readReasons cells v bytes) (outcomeNumber (p .outcome)) (outcomeNumber (q .outcome))
           (first-as (readReasons cells w bytes) (readReasons cells v bytes) (outcomeNumber (p .outcome))
-          (refl, always, (refl, short-alike, (refl, always, (refl, always, (refl, always, tt)))))
+          (refl, Iff·rfl, (refl, short-alike, (refl, Iff·rfl, (refl, Iff·rfl, (refl, Iff·rfl, tt)))))
           (p .reads .refusal))
           (q .reads .refusal)
 

@@ -7,15 +7,16 @@ use Prim.Native.Nat.{ℕ, zero, suc}
 use native.Mathlib.Omega.{arith}
 use lib.IntN.{ℤ, ℤ-discrete}
 use lib.ListN.{length}
-use lib.Signed.{_≤ℤ_, _<ℤ_}
+use lib.Signed.{_≤ℤ_}
 use Rattle.whole.specs.Lists.{_∈_, keep-in, in-keep}
-use Rattle.whole.specs.Order.{≤ℤ-trans, ≤ℤ-or-<ℤ}
+use Rattle.whole.specs.Order.{≤ℤ-trans}
 use Rattle.track.specs.Life.{LivesAt}
 use Rattle.track.specs.Refusals.{First, none-holds, not-zero}
 use Rattle.track.specs.declared.cell.Cell.{Cell}
 use Rattle.table.specs.Header.{capacityWord, clock}
 use Rattle.table.specs.Fresh.{IsFresh}
 use Rattle.tree.specs.Steps.{outcomeNumber, Stays, Step, reportRefusals, dropRefusals}
+use Rattle.alike.specs.AlikeLaws.{not-before}
 use Rattle.reading.specs.Reads.{IsRead}
 use Rattle.promises.specs.Calls.{Call, Fresh, Report, Drop, Window, Moving, Open, Leaf, Write, Read, Reply, told, Happens, Run, no-call, one-call}
 use Rattle.promises.specs.Model.{Model, Together, fresh, ofSheet, differs, others, accepted, after, afterAll, Start, made, read, acceptedCapacity, capacityAfter, Sized}
@@ -35,9 +36,6 @@ others-in id cells {c} m = let k = keep-in (λ d. differs (ℤ-discrete (d .id) 
 
 in-others : (id : ℤ) {cells : List Cell} {c : Cell} → c ∈ cells → (c .id ≡ id → ⊥) → c ∈ others id cells
 in-others id {c} m n = in-keep (λ d. differs (ℤ-discrete (d .id) id)) m (not-differs (ℤ-discrete (c .id) id) n)
-
-not-before : {a b : ℤ} → (a <ℤ b → ⊥) → b ≤ℤ a
-not-before {a} {b} h = ⊎-elim (λ le. le) (λ lt. absurd (h lt)) (≤ℤ-or-<ℤ b a)
 
 -- ---- a step at a minute that is not before the clock: what stays in the table is what the model has besides the identifier
 module _ {m : Model} {w : List ℤ} (t : Together m w) {minute id : ℤ} (late : clock w ≤ℤ minute) where
