@@ -94,10 +94,12 @@ impl Cell {
     ) -> Reported
         ensures { λ r. ⌜ Reports clock id x y vx vy minute expiry r ⌝ }
     {
-        if !report_in_range(id, x, y, vx, vy, minute, expiry) {
+        let outside = !report_in_range(id, x, y, vx, vy, minute, expiry);
+        let early = minute < clock;
+        if outside {
             return Reported::Refused(Refusal::OutOfRange);
         }
-        if minute < clock {
+        if early {
             return Reported::Refused(Refusal::BeforeClock);
         }
         if expiry < minute {
