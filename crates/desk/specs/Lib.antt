@@ -1,3 +1,4 @@
 pub mod Talked
 pub mod Talking
+pub mod Turning
 pub mod Begun

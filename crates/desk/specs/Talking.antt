@@ -1,11 +1,11 @@
 -- A piece is heard part by part.
 use mathlib.Core.Path.{_≡_}
 use mathlib.Core.List.{List, [], _++_, append-nil}
-use Prim.Native.Nat.{ℕ, _+_, _-_, _≤_}
+use Prim.Native.Nat.{ℕ, _+_, _-_}
 use native.Mathlib.Omega.{arith}
 use lib.IntN.{ℤ}
 use lib.ListN.{length, take, drop, length-drop}
-use lib.Seq.{take-all, take-add, take-length}
+use lib.Seq.{take-all, take-add}
 use Rattle.feed.specs.PartingLaws.{parted-rest}
 use Rattle.answering.specs.Answered.{no-line}
 use Rattle.answering.specs.Served.{Serves}
@@ -24,6 +24,3 @@ module _ {w : List ℤ} {buffer : List ℕ} {held : ℕ} (piece : List ℕ) (fro
       let all : take (length piece - from) (drop from piece) ≡ drop from piece = take-all (length piece - from) (drop from piece) (omega (arith, length-drop from piece)) in
       let after = rw all at (s .hears (before .1 .rest) (before .1 .parted .clean-rest) (before .1 .holds)) in
       (before .0 ++ take written out′, rw (take-add from taken piece) (heard-then (before .1) after))
-
-  pub heard-whole : length piece ≤ from → from ≤ length piece → HearsAll w buffer held piece t buffer′ held′
-  heard-whole ge le = let e : from ≡ length piece = omega arith in rw (e, take-length) at so-far
