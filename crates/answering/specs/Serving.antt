@@ -10,8 +10,8 @@ use borrow.Rule.Slice.PartMut.{putMid}
 use lib.Seq.{take-suc, take-at, drop-at, drop-drop, take-all, take-nil, length-take-le}
 use Rattle.feed.specs.Parting.{lineFeed, NoFeed, lastLine}
 use Rattle.feed.specs.PartingLaws.{parted-rest, parted-byte, parted-feed, parted-then}
-use Rattle.feed.specs.Held.{Held, KeepsByte}
-use Rattle.feed.specs.HeldLaws.{held-none, held-some, held-whole}
+use Rattle.feed.specs.Held.{Held}
+use Rattle.feed.specs.HeldLaws.{KeepsByte, held-none, held-some, held-whole}
 use Rattle.spelling.specs.Answers.{Written}
 use Rattle.answering.specs.Answered.{longestLine, longestAnswer, Answered, Session, no-line, and-line}
 use Rattle.answering.specs.Served.{Heard, Serves, Ends}

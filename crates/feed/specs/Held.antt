@@ -1,6 +1,6 @@
 -- What is kept of a line while its bytes come in.
 use mathlib.Core.Path.{_≡_}
-use mathlib.Core.List.{List, [], _∷_, _++_}
+use mathlib.Core.List.{List}
 use Prim.Native.Nat.{ℕ, _+_, _≤_, _<_}
 use lib.ListN.{length, take, set}
 
@@ -14,7 +14,3 @@ pub record Held (buffer : List ℕ) (n : ℕ) (line : List ℕ) : Type 0 where
 pub record Keeps (buffer : List ℕ) (n b : ℕ) (buffer′ : List ℕ) (n′ : ℕ) : Type 0 where
   pub room : n < length buffer → (buffer′ ≡ set buffer n b) × (n′ ≡ n + 1)
   pub full : length buffer ≤ n → (buffer′ ≡ buffer) × (n′ ≡ n)
-
--- whatever line was held, that line with the byte b behind it is held now
-abbrev pub KeepsByte : List ℕ → ℕ → ℕ → List ℕ → ℕ → Type 0
-KeepsByte buffer n b buffer′ n′ = (line : List ℕ) → Held buffer n line → Held buffer′ n′ (line ++ b ∷ [])

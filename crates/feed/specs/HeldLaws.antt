@@ -7,7 +7,7 @@ use native.Mathlib.Omega.{arith}
 use native.Mathlib.Decide.{decLt}
 use lib.ListN.{length, take, set, length-set, length-append, length-take}
 use lib.Seq.{take-nil, take-all, length-take-le, take-append-le, take-suc-set}
-use Rattle.feed.specs.Held.{Held, Keeps, KeepsByte}
+use Rattle.feed.specs.Held.{Held, Keeps}
 
 pub held-none : (buffer : List ℕ) → Held buffer 0 []
 held-none buffer = record { inside = omega arith; is = sym (take-nil (length buffer)) }
@@ -34,6 +34,10 @@ module _ {buffer : List ℕ} {n : ℕ} {line : List ℕ} (h : Held buffer n line
   held-over ge =
       let counted : length (take n buffer) ≡ length (take (length buffer) line) = ap length (h .is) in
       omega (arith, counted, length-take-le n buffer (h .inside), length-take (length buffer) line, h .inside)
+
+-- whatever line was held, that line with the byte b behind it is held now
+abbrev pub KeepsByte : List ℕ → ℕ → ℕ → List ℕ → ℕ → Type 0
+KeepsByte buffer n b buffer′ n′ = (line : List ℕ) → Held buffer n line → Held buffer′ n′ (line ++ b ∷ [])
 
 keeps-one : (buffer : List ℕ) (n b : ℕ) → n < length buffer → KeepsByte buffer n b (set buffer n b) (n + 1)
 keeps-one buffer n b lt = λ line h.
