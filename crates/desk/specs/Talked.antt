@@ -1,5 +1,6 @@
 -- What the desk has done with what it read.
 use mathlib.Core.Path.{_≡_}
+use mathlib.Core.Logic.{_⊎_}
 use mathlib.Core.Bool.{Bool, true, false}
 use mathlib.Core.List.{List}
 use Prim.Native.Nat.{ℕ, _≤_, _<_}
@@ -35,3 +36,11 @@ pub record Turned (got : ℤ) (w : List ℤ) (buffer : List ℕ) (held : ℕ) (p
   pub ended : got ≡ pos 0 → Finished w buffer held v × (buffer′ ≡ buffer) × (held′ ≡ held) × (on ≡ false)
   pub came : (n : ℕ) → got ≡ pos n → 0 < n → n ≤ length piece → Talked w buffer held (take n piece) v buffer′ held′ on
   pub held-in : held′ ≤ length buffer′
+
+-- a whole run, from the table w to v: some bytes came in and were heard one after the other, by which the table became u; and then what was
+-- held was answered as a last line, or not
+pub record Ran (w : List ℤ) (buffer : List ℕ) (held : ℕ) (v : List ℤ) (buffer′ : List ℕ) (held′ : ℕ) : Type 0 where
+  pub bytes : List ℕ
+  pub u : List ℤ
+  pub hears : HearsAll w buffer held bytes u buffer′ held′
+  pub last : (v ≡ u) ⊎ Finished u buffer′ held′ v

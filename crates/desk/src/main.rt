@@ -12,7 +12,7 @@ ghost use lib.ListN.{length};
 ghost use Rattle.table.specs.Header.{greatestCapacity, wordsFor};
 ghost use Rattle.table.specs.Fresh.{IsFresh};
 ghost use Rattle.answering.specs.Served.{CanServe};
-ghost use Rattle.desk.specs.Talked.{Talked, Finished, Turned};
+ghost use Rattle.desk.specs.Talked.{Talked, Finished, Turned, Ran};
 
 const CAPACITY: i32 = 256;
 
@@ -118,6 +118,7 @@ fn run(
     out: &mut [u8],
 )
     requires { ⌜ CanServe (now list) (now line) (now held) (now out) ⌝ }
+    ensures { λ _. ⌜ Ran (now (t .entry)) (now (line .entry)) (now (held .entry)) (now (t .exit)) (now (line .exit)) (now (held .exit)) ⌝ }
 {
     let mut turns = most_turns();
     while turns > 0 {

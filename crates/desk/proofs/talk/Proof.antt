@@ -52,7 +52,7 @@ hears v = heard-more (started v .args .piece .now) (turn v .before .loop .from) 
 loop-holds : tie.Need-loop-holds Inv-loop μ-loop
 loop-holds c =
     let s = c .before .before .before in
-    (refl, refl, refl, refl, omega arith, s .pre .held-in, heard-none (s .args .t .now) (s .args .line .now) (s .args .held .now) (s .args .piece .now))
+    (refl, refl, refl, refl, omega arith, s .pre .held-in, heard-none (s .args .t .now) (s .args .line .now) (s .args .held .now))
 
 sub-serve : tie.Need-sub-serve Inv-loop μ-loop
 sub-serve c = search needs
