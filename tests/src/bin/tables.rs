@@ -96,8 +96,8 @@ fn change(table: &mut [i32], change: &Change) -> i32 {
 
 fn query(kind: Kind, table: &mut [i32], list: &mut [i32], numbers: &[i32; QUERY_NUMBERS]) -> Answer {
     let [start, end, xlow, xhigh, ylow, yhigh, xlow2, xhigh2, ylow2, yhigh2] = *numbers;
+    let side = Side::by(numbers.iter().fold(0, |mixed, number| mixed ^ number));
     // Neither is what any call answers, so that both must be written.
-    let side = Side::by(numbers.iter().fold(0, |sum, number| sum ^ number));
     let (mut hits, mut opened) = (Beside::holding(&[-77], side), Beside::holding(&[-78], side));
     let (words, places) = (table.len(), list.len());
     let (table, list) = (table.as_mut_ptr(), list.as_mut_ptr());
@@ -142,8 +142,8 @@ fn query(kind: Kind, table: &mut [i32], list: &mut [i32], numbers: &[i32; QUERY_
 }
 
 fn write(table: &mut [i32], bytes: &mut [u8]) -> Written {
-    // No call answers it, so that it must be written.
     let (words, length) = (table.len(), bytes.len());
+    // No call answers it, so that it must be written.
     let mut total = Beside::holding(&[-77], Side::by(length as i32));
     let (table, bytes) = (table.as_mut_ptr(), bytes.as_mut_ptr());
     // Table and bytes are ours, apart from each other, and lent with their lengths.

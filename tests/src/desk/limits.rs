@@ -14,6 +14,7 @@ use std::time::{Duration, Instant};
 const MEGABYTE: usize = 1 << 20;
 const MEGABYTES: usize = 256;
 
+/// More than 16 bits can count.
 const LINES: usize = 70_000;
 
 /// What it says on standard error when a file fails, once.
@@ -51,8 +52,8 @@ fn peak_memory(process: u32) -> io::Result<u64> {
     number.ok_or_else(|| io::Error::other("no VmHWM"))
 }
 
-/// A talk of more reads than 16 bits can count: each line is written when the one before it has its
-/// answer, so each is a read of its own. The cell of the first line is there to the last.
+/// A talk of many reads: each line is written when the one before it has its answer, so each is a read
+/// of its own. The cell of the first line is there to the last.
 pub fn long_talk(program: &Path) -> bool {
     let mut desk = Desk::fresh();
     let mut session = Session::default();
@@ -72,6 +73,12 @@ fn fed_until_gone(child: &mut Child) -> bool {
     begun.elapsed() < LONG
 }
 
+/// Its output is a device that takes nothing.
+fn with_full_output(program: &Path) -> io::Result<Child> {
+    let full = fs::OpenOptions::new().write(true).open("/dev/full")?;
+    Command::new(program).stdin(Stdio::piped()).stdout(full).stderr(Stdio::piped()).spawn()
+}
+
 /// The program ends by itself, and soon, where nobody reads its output or the output takes nothing.
 pub fn closed_output(program: &Path) -> io::Result<bool> {
     let mut unread = start(program)?;
@@ -79,20 +86,16 @@ pub fn closed_output(program: &Path) -> io::Result<bool> {
     let ends_unread = fed_until_gone(&mut unread);
     // The system ends a program that writes to a pipe that nobody reads, so nothing more is asked of it.
     unread.wait()?;
-    let full = fs::OpenOptions::new().write(true).open("/dev/full")?;
-    let mut refused =
-        Command::new(program).stdin(Stdio::piped()).stdout(full).stderr(Stdio::piped()).spawn()?;
+    let mut refused = with_full_output(program)?;
     let ends_refused = fed_until_gone(&mut refused);
     Ok(ends_unread && ends_refused && ended(refused)? == NOT_WRITTEN)
 }
 
 /// The last line has no line feed, so its answer comes at the end of the input, and the output refuses it.
 pub fn refused_last_answer(program: &Path) -> io::Result<bool> {
-    let full = fs::OpenOptions::new().write(true).open("/dev/full")?;
-    let mut child =
-        Command::new(program).stdin(Stdio::piped()).stdout(full).stderr(Stdio::piped()).spawn()?;
-    child.stdin.take().expect("a pipe").write_all(b"when 0 0 0 0 0 0")?;
-    Ok(ended(child)? == NOT_WRITTEN)
+    let mut refused = with_full_output(program)?;
+    refused.stdin.take().expect("a pipe").write_all(b"when 0 0 0 0 0 0")?;
+    Ok(ended(refused)? == NOT_WRITTEN)
 }
 
 /// An input that cannot be read gets no answer.
