@@ -1,14 +1,15 @@
 /*
  * Makes fresh tables, reports to them and drops from them, asks them, writes and
  * reads their sheets and leafs through them, from C: every number that these
- * calls give.
+ * calls give. All that is lent is lent in blocks of just its size.
  * Prints a line for each check that fails, and last the counts.
  */
+#include "lent.h"
+
 #include "calls.h"
 
 #include <stdbool.h>
 #include <stdio.h>
-#include <stdlib.h>
 #include <string.h>
 
 enum { CELLS = 9, PLACES = 4, EXTRA = 5, RUBBISH = -559038737 };
@@ -35,12 +36,9 @@ static void check(const char *name, bool holds)
     printf("FAILED %s\n", name);
 }
 
-/* Memory of just this size, so that the sanitizer sees what goes past its end. */
 static int32_t *rubbish(size_t words)
 {
-    int32_t *memory = malloc((words > 0 ? words : 1) * sizeof *memory);
-    if (memory == NULL)
-        abort();
+    int32_t *memory = lend(words * sizeof *memory);
     for (size_t i = 0; i < words; i++)
         memory[i] = RUBBISH;
     return memory;
@@ -61,23 +59,32 @@ static bool all_rubbish(const int32_t *memory, size_t words)
     return true;
 }
 
+/* The counts of a query, lent as well, with its number. */
+static struct answer answered(int32_t number, int32_t *hits, int32_t *opened)
+{
+    struct answer a = {number, *hits, *opened};
+    give_back(hits);
+    give_back(opened);
+    return a;
+}
+
 static struct answer window(const int32_t *table, size_t words, int32_t *list, size_t places,
                             struct query q)
 {
-    struct answer a = {RUBBISH, RUBBISH, RUBBISH};
-    a.number = bradawlet_window(table, words, list, places, q.start, q.end, q.first[0], q.first[1],
-                                q.first[2], q.first[3], &a.hits, &a.opened);
-    return a;
+    int32_t *hits = rubbish(1), *opened = rubbish(1);
+    int32_t number = bradawlet_window(table, words, list, places, q.start, q.end, q.first[0],
+                                      q.first[1], q.first[2], q.first[3], hits, opened);
+    return answered(number, hits, opened);
 }
 
 static struct answer moving(const int32_t *table, size_t words, int32_t *list, size_t places,
                             struct query q)
 {
-    struct answer a = {RUBBISH, RUBBISH, RUBBISH};
-    a.number = bradawlet_moving(table, words, list, places, q.start, q.end, q.first[0], q.first[1],
-                                q.first[2], q.first[3], q.last[0], q.last[1], q.last[2], q.last[3],
-                                &a.hits, &a.opened);
-    return a;
+    int32_t *hits = rubbish(1), *opened = rubbish(1);
+    int32_t number = bradawlet_moving(table, words, list, places, q.start, q.end, q.first[0],
+                                      q.first[1], q.first[2], q.first[3], q.last[0], q.last[1],
+                                      q.last[2], q.last[3], hits, opened);
+    return answered(number, hits, opened);
 }
 
 static bool is(struct answer a, int32_t number, int32_t hits, int32_t opened)
@@ -93,7 +100,7 @@ static void check_fresh(int32_t cells, size_t words, int32_t number)
     check(name, bradawlet_fresh(table, words, cells) == number);
     size_t untouched_from = number == BRADAWLET_DONE ? BRADAWLET_WORDS(cells) : 0;
     check(name, all_rubbish(table + untouched_from, words - untouched_from));
-    free(table);
+    give_back(table);
 }
 
 /* Asks a window and the same rectangle as a moving query: both must answer this, write these
@@ -102,17 +109,16 @@ static void check_query(const char *name, const int32_t *table, size_t words, si
                         struct query q, struct answer expected, const int32_t *identifiers)
 {
     size_t written = expected.number == BRADAWLET_DONE ? (size_t)expected.hits : 0;
-    int32_t *before = copy(table, words);
     for (int kind = 0; kind < 2; kind++) {
-        int32_t *list = rubbish(places);
-        struct answer a = (kind == 0 ? window : moving)(table, words, list, places, q);
+        int32_t *lent = copy(table, words), *list = rubbish(places);
+        struct answer a = (kind == 0 ? window : moving)(lent, words, list, places, q);
         check(name, is(a, expected.number, expected.hits, expected.opened));
         check(name, memcmp(list, identifiers, written * sizeof *list) == 0);
         check(name, all_rubbish(list + written, places - written));
-        check(name, memcmp(table, before, words * sizeof *table) == 0);
-        free(list);
+        check(name, memcmp(lent, table, words * sizeof *table) == 0);
+        give_back(list);
+        give_back(lent);
     }
-    free(before);
 }
 
 /* Writes a cell into a fresh table whose root is still a leaf, as its words are laid out: the
@@ -176,7 +182,7 @@ static void check_queries(void)
     wrong.first[0] = wrong.last[0] = 10;
     check_query("7: xlow above xhigh", table, words, 0, wrong, (struct answer){7, 0, 0}, none);
 
-    int32_t list[PLACES];
+    int32_t *list = rubbish(PLACES);
     wrong = whole;
     wrong.last[2] = 10;
     check("7: ylow2 above yhigh2", is(moving(table, words, list, PLACES, wrong), 7, 0, 0));
@@ -189,7 +195,8 @@ static void check_queries(void)
 
     table[16 + 96 * table[2]] = 9;
     check_query("nine entries", table, words, 0, wrong, unsound, none);
-    free(table);
+    give_back(list);
+    give_back(table);
 }
 
 /* Writes the sheet into so many bytes: it must answer this, and write the sheet or nothing. */
@@ -197,20 +204,21 @@ static void check_write(const char *name, const int32_t *table, size_t words, si
                         int32_t number, const uint8_t *sheet, size_t total)
 {
     size_t written = number == BRADAWLET_DONE ? total : 0;
-    int32_t told = RUBBISH;
-    uint8_t *bytes = malloc(length > 0 ? length : 1);
-    if (bytes == NULL)
-        abort();
+    int32_t *lent = copy(table, words), *told = rubbish(1);
+    uint8_t *bytes = lend(length);
     memset(bytes, 0xa5, length);
-    check(name, bradawlet_write(table, words, bytes, length, &told) == number);
-    check(name, told == (int32_t)written);
+    check(name, bradawlet_write(lent, words, bytes, length, told) == number);
+    check(name, *told == (int32_t)written);
+    check(name, memcmp(lent, table, words * sizeof *table) == 0);
     check(name, memcmp(bytes, sheet, written) == 0);
     for (size_t i = written; i < length; i++)
         if (bytes[i] != 0xa5) {
             check(name, false);
             break;
         }
-    free(bytes);
+    give_back(bytes);
+    give_back(told);
+    give_back(lent);
 }
 
 static void check_next(const char *name, const int32_t *table, size_t words, int32_t last,
@@ -219,7 +227,7 @@ static void check_next(const char *name, const int32_t *table, size_t words, int
     int32_t *numbers = rubbish(6);
     check(name, bradawlet_next(table, words, last, numbers) == answer);
     check(name, memcmp(numbers, cell, 6 * sizeof *cell) == 0);
-    free(numbers);
+    give_back(numbers);
 }
 
 /* Reads the sheet into so many words: it must answer this, and touch no word past the table's
@@ -228,9 +236,7 @@ static void check_read(const char *name, size_t words, int32_t cells, const uint
                        size_t length, int32_t number)
 {
     int32_t *table = rubbish(words);
-    uint8_t *bytes = malloc(length > 0 ? length : 1);
-    if (bytes == NULL)
-        abort();
+    uint8_t *bytes = lend(length);
     memcpy(bytes, sheet, length);
     check(name, bradawlet_read(table, words, cells, bytes, length) == number);
     check(name, memcmp(bytes, sheet, length) == 0);
@@ -238,8 +244,8 @@ static void check_read(const char *name, size_t words, int32_t cells, const uint
     check(name, all_rubbish(table + untouched_from, words - untouched_from));
     if (number == BRADAWLET_DONE)
         check_write(name, table, words, length, BRADAWLET_DONE, sheet, length);
-    free(bytes);
-    free(table);
+    give_back(bytes);
+    give_back(table);
 }
 
 /* A sheet with two cells, and what can be wrong with it. */
@@ -316,7 +322,7 @@ static void check_sheets(void)
     check_next("past the expired cell", table, words, 5, 1, late);
     check_next("the last cell once more", table, words, INT32_MAX - 1, 1, late);
     check_next("no more", table, words, INT32_MAX, 0, none);
-    free(table);
+    give_back(table);
     check_reads(two);
 }
 
@@ -332,7 +338,7 @@ static void check_left(const char *name, const int32_t *table, size_t words, int
     } else {
         check(name, memcmp(table, before, words * sizeof *table) == 0);
     }
-    free(before);
+    give_back(before);
 }
 
 /* A report is identifier, x, y, x velocity, y velocity, minute and expiry. */
@@ -356,10 +362,11 @@ static void check_drop(const char *name, int32_t *table, size_t words, int32_t i
 static void check_window(const char *name, const int32_t *table, size_t words, const int32_t w[6],
                          int32_t number, int32_t hit)
 {
-    int32_t list[PLACES] = {0};
+    int32_t *list = rubbish(PLACES);
     struct query q = {w[0], w[1], {w[2], w[3], w[4], w[5]}, {0, 0, 0, 0}};
     struct answer a = window(table, words, list, PLACES, q);
-    check(name, a.number == number && a.hits == (hit > 0) && list[0] == hit);
+    check(name, a.number == number && a.hits == (hit > 0) && list[0] == (hit > 0 ? hit : RUBBISH));
+    give_back(list);
 }
 
 /* A whole run of the desk program, by calls. */
@@ -379,7 +386,7 @@ static void check_desk_run(void)
     check_drop("7 dropped", table, words, 7, 12, 0);
     check_window("9 alone", table, words, (int32_t[6]){12, 40, -500, 500, -500, 500}, 0, 9);
     check_window("7: transposed", table, words, (int32_t[6]){40, 12, 0, 1, 0, 1}, 7, 0);
-    free(table);
+    give_back(table);
 }
 
 static void check_full(void)
@@ -414,13 +421,11 @@ static void check_full(void)
     table[16 + 96 * table[2]] = 9;
     check_report("1 before 4", table, words, (int32_t[7]){0, 0, 0, 0, 0, 31, 31}, 1);
     check_drop("1: nine entries", table, words, 3, 31, BRADAWLET_UNSOUND);
-    free(table);
+    give_back(table);
 }
 
-int main(void)
+static void check_capacities(void)
 {
-    /* A failure is printed even if the sanitizer ends the program after it. */
-    setvbuf(stdout, NULL, _IOLBF, BUFSIZ);
     static const int32_t capacities[] = {1, 2, 3, CELLS, 255, 256};
     for (size_t i = 0; i < sizeof capacities / sizeof capacities[0]; i++) {
         size_t need = BRADAWLET_WORDS(capacities[i]);
@@ -436,10 +441,19 @@ int main(void)
     check_fresh(257, BRADAWLET_WORDS(257), BRADAWLET_NO_SUCH_CAPACITY);
     check_fresh(INT32_MIN, 112, BRADAWLET_NO_SUCH_CAPACITY);
     check_fresh(INT32_MAX, 12400, BRADAWLET_NO_SUCH_CAPACITY);
-    check_queries();
-    check_sheets();
-    check_desk_run();
-    check_full();
+}
+
+int main(void)
+{
+    /* A failure is printed even if the library or the sanitizer ends the program after it. */
+    setvbuf(stdout, NULL, _IOLBF, BUFSIZ);
+    for (lent_side = 0; lent_side < LENT_SIDES; lent_side++) {
+        check_capacities();
+        check_queries();
+        check_sheets();
+        check_desk_run();
+        check_full();
+    }
     printf("%u passed, %u failed\n", passed, failed);
     return failed != 0;
 }

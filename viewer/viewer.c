@@ -1,15 +1,16 @@
 /*
  * Asks the viewer's meeting call about tracks whose answers are known, and for
  * every refusal; asks its sheet test about sheets that are whole, cut short,
- * padded and damaged. Prints a line for each check that fails, and last the
- * counts.
+ * padded and damaged, in blocks of just their size. Prints a line for each check
+ * that fails, and last the counts.
  */
+#include "lent.h"
+
 #include "bradawlet.h"
 
 #include <stdbool.h>
 #include <stddef.h>
 #include <stdio.h>
-#include <stdlib.h>
 
 #define LENGTH(array) (sizeof(array) / sizeof((array)[0]))
 
@@ -317,9 +318,7 @@ static void make_sheet(struct sheet *sheet, int32_t cells)
 /* The first bytes of a sheet, as many as length, in a block of just that size. */
 static uint8_t *bytes_of(const struct sheet *sheet, size_t length)
 {
-    uint8_t *bytes = malloc(length == 0 ? 1 : length);
-    if (bytes == NULL)
-        abort();
+    uint8_t *bytes = lend(length);
     for (size_t i = 0; i < length; i++)
         bytes[i] = (uint8_t)((uint32_t)sheet->word[i / WORD_BYTES] >> (8 * (i % WORD_BYTES)));
     return bytes;
@@ -343,7 +342,7 @@ static void check_sheet(const char *name, const char *detail, const struct sheet
 {
     uint8_t *bytes = bytes_of(sheet, length);
     check_bytes(name, detail, bytes, length, expected);
-    free(bytes);
+    give_back(bytes);
 }
 
 /* Every length from nothing to past the total: only the total itself will do. */
@@ -434,7 +433,7 @@ static void check_single_bytes(int32_t cells)
     for (size_t place = 0; place < length; place++) {
         uint8_t *bytes = bytes_of(&sheet, length);
         check_byte(bytes, length, place);
-        free(bytes);
+        give_back(bytes);
     }
 }
 
@@ -453,6 +452,8 @@ static void check_sheets(void)
 
 int main(void)
 {
+    /* A failure is printed even if the library ends the program after it. */
+    setvbuf(stdout, NULL, _IOLBF, BUFSIZ);
     for (size_t i = 0; i < LENGTH(tracks); i++)
         check(tracks[i].name, "", &tracks[i].call, tracks[i].answer);
     for (size_t i = 0; i < ARGUMENTS; i++)
@@ -460,7 +461,8 @@ int main(void)
     check_all_arguments_at(" at INT32_MIN", INT32_MIN);
     check_all_arguments_at(" at INT32_MAX", INT32_MAX);
     check_order();
-    check_sheets();
+    for (lent_side = 0; lent_side < LENT_SIDES; lent_side++)
+        check_sheets();
     printf("%u passed, %u failed\n", passed, failed);
     return failed != 0;
 }

@@ -5,6 +5,7 @@ pub mod comparison;
 pub mod desk;
 pub mod families;
 pub mod meeting;
+pub mod pages;
 pub mod question;
 pub mod random;
 pub mod refusal;

@@ -25,11 +25,13 @@ pub record Heard (w : List ℤ) (begun bytes : List ℕ) (v : List ℤ) (answers
   pub holds : Held buffer held rest
 
 -- one call: whatever line was begun, the first `taken` bytes of the piece are heard, and the answers are the first bytes of `out`, which
--- is `out′` then. The list and the buffer past what is held are of no more use
+-- is `out′` then. At least one byte is taken, and all of them unless there might be no room for a further answer. The list and the buffer
+-- past what is held are of no more use
 pub record Serves (w : List ℤ) (buffer : List ℕ) (held : ℕ) (piece out : List ℕ) (v : List ℤ) (buffer′ : List ℕ) (held′ : ℕ) (out′ : List ℕ) (taken written : ℕ) : Type 0 where
   pub hears : (begun : List ℕ) → NoFeed begun → Held buffer held begun → Heard w begun (take taken piece) v (take written out′) buffer′ held′
   pub taken-in : taken ≤ length piece
   pub forward : 0 < length piece → 0 < taken
+  pub all : written + longestAnswer ≤ length out′ → taken ≡ length piece
   pub held-in : held′ ≤ length buffer′
   pub written-in : written ≤ length out′
   pub rest-kept : drop written out′ ≡ drop written out

@@ -10,10 +10,10 @@ use borrow.Rule.Slice.PartMut.{putMid}
 use lib.Seq.{take-suc, take-at, drop-at, drop-drop, take-all, take-nil, length-take-le}
 use Rattle.feed.specs.Parting.{lineFeed, NoFeed, lastLine}
 use Rattle.feed.specs.PartingLaws.{parted-rest, parted-byte, parted-feed, parted-then}
-use Rattle.feed.specs.Held.{Held, KeepsByte}
-use Rattle.feed.specs.HeldLaws.{held-none, held-some, held-whole}
+use Rattle.feed.specs.Held.{Held}
+use Rattle.feed.specs.HeldLaws.{KeepsByte, held-none, held-some, held-whole}
 use Rattle.spelling.specs.Answers.{Written}
-use Rattle.answering.specs.Answered.{longestLine, Answered, Session, no-line, and-line}
+use Rattle.answering.specs.Answered.{longestLine, longestAnswer, Answered, Session, no-line, and-line}
 use Rattle.answering.specs.Served.{Heard, Serves, Ends}
 
 -- whatever line is held, it is answered in the buffer `before`, which is `after` then; r is how many bytes the answer has
@@ -132,8 +132,9 @@ module _ {w : List ℤ} {buffer : List ℕ} {held : ℕ} {piece out₀ : List �
     rest-kept = takes .rest-kept ∙ dropped-on written written″ out out₀ (takes .onward) (s .rest-kept);
   }
 
-  pub so-far-serves : (0 < length piece → 0 < i) → Serves w buffer held piece out₀ t buffer′ held′ out i written
-  so-far-serves some = record { hears = s .hears; taken-in = s .taken-in; forward = some; held-in = s .held-in; written-in = s .written-in; rest-kept = s .rest-kept }
+  pub so-far-serves : (0 < length piece → 0 < i) → (written + longestAnswer ≤ length out → i ≡ length piece) → Serves w buffer held piece out₀ t buffer′ held′ out i written
+  so-far-serves some all =
+      record { hears = s .hears; taken-in = s .taken-in; forward = some; all = all; held-in = s .held-in; written-in = s .written-in; rest-kept = s .rest-kept }
 
   -- with room for an answer at the start, a byte was taken
   pub some-taken : {longest : ℕ} → longest ≤ length out → length out - written < longest → 0 < i

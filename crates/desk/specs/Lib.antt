@@ -1,3 +1,5 @@
 pub mod Talked
 pub mod Talking
+pub mod Turning
+pub mod Running
 pub mod Begun

@@ -1,98 +1,139 @@
 // The desk: lines from standard input, an answer to each on standard output.
 use answering::serving::end;
 use answering::serving::serve;
+use libc::STDERR_FILENO;
 use libc::STDIN_FILENO;
 use libc::STDOUT_FILENO;
 use table::fresh::fresh;
 ghost use mathlib.Core.Path.{_≡_};
+ghost use Prim.Native.Nat.{_-_, _^_};
 ghost use lib.IntN.{pos};
 ghost use lib.ListN.{length};
 ghost use Rattle.table.specs.Header.{greatestCapacity, wordsFor};
 ghost use Rattle.table.specs.Fresh.{IsFresh};
 ghost use Rattle.answering.specs.Served.{CanServe};
-ghost use Rattle.desk.specs.Talked.{Talked};
+ghost use Rattle.desk.specs.Talked.{Talked, Finished, Turned, Ran};
 
 const CAPACITY: i32 = 256;
 
-// Whether standard output took every answer, and how many bytes of a line are held.
-struct Said {
-    told: bool,
-    held: usize,
+// Whether standard output took the answers. Where it did not, a line on standard error says so.
+fn say(answers: &[u8]) -> bool {
+    if io::write_all(STDOUT_FILENO, answers) {
+        return true;
+    }
+    io::write_all(
+        STDERR_FILENO,
+        b"bradawlet: standard output could not be written\n",
+    );
+    false
 }
 
-// Answers every line that ends in the piece.
+// Answers every line that ends in the piece, and tells whether standard output took every answer. What is held of a line from piece
+// to piece is counted here alone.
 fn talk(
     t: &mut [i32],
     list: &mut [i32],
     line: &mut [u8],
-    held: usize,
+    held: &mut usize,
     piece: &[u8],
     out: &mut [u8],
-) -> Said
-    requires { ⌜ CanServe (now list) (now line) held (now out) ⌝ }
-    ensures { λ r. ⌜ Talked (now (t .entry)) (now (line .entry)) held (now (piece .entry)) (now (t .exit)) (now (line .exit)) (r .held) (r .told) ⌝ }
+) -> bool
+    requires { ⌜ CanServe (now list) (now line) (now held) (now out) ⌝ }
+    ensures { λ r. ⌜ Talked (now (t .entry)) (now (line .entry)) (now (held .entry)) (now (piece .entry)) (now (t .exit)) (now (line .exit)) (now (held .exit)) r ⌝ }
 {
-    let mut now_held = held;
     let mut from = 0;
     while from < piece.len() {
         let done = serve(
             &mut *t,
             &mut *list,
             &mut *line,
-            now_held,
+            *held,
             &piece[from..],
             &mut *out,
         );
         let place = done.place;
+        let now_held = place.held;
         let written = place.written;
-        if !io::write_all(STDOUT_FILENO, &out[..written]) {
-            return Said {
-                told: false,
-                held: 0,
-            };
-        }
-        now_held = place.held;
+        *held = now_held;
         from += done.taken;
+        if !say(&out[..written]) {
+            return false;
+        }
     }
-    Said {
-        told: true,
-        held: now_held,
-    }
+    true
 }
 
 // Answers what follows the last line feed.
 fn finish(t: &mut [i32], list: &mut [i32], line: &[u8], held: usize, out: &mut [u8])
     requires { ⌜ CanServe (now list) (now line) held (now out) ⌝ }
+    ensures { λ _. ⌜ Finished (now (t .entry)) (now (line .entry)) held (now (t .exit)) ⌝ }
 {
     let written = end(t, list, line, held, &mut *out);
-    io::write_all(STDOUT_FILENO, &out[..written]);
+    say(&out[..written]);
 }
 
-// Reads piece after piece until the input ends or the output is closed. A proved loop has to end, and nothing says that the input does:
-// so the turns are counted down, from a number that no run uses up.
-fn run(t: &mut [i32], list: &mut [i32], line: &mut [u8], piece: &mut [u8], out: &mut [u8])
-    requires { ⌜ CanServe (now list) (now line) 0 (now out) ⌝ }
+// What a read came to: `got` is its answer, and the piece has the bytes that came in. Tells whether to go on reading. A read that fails
+// is no end of the input: what is held then is no last line.
+fn turn(
+    t: &mut [i32],
+    list: &mut [i32],
+    line: &mut [u8],
+    held: &mut usize,
+    got: isize,
+    piece: &[u8],
+    out: &mut [u8],
+) -> bool
+    requires { ⌜ CanServe (now list) (now line) (now held) (now out) ⌝ }
+    ensures { λ r. ⌜ Turned got (now (t .entry)) (now (line .entry)) (now (held .entry)) (now (piece .entry)) (now (t .exit)) (now (line .exit)) (now (held .exit)) r ⌝ }
 {
-    let mut held = 0;
-    let mut turns = u64::MAX;
+    if got < 0 {
+        io::write_all(
+            STDERR_FILENO,
+            b"bradawlet: standard input could not be read\n",
+        );
+        return false;
+    }
+    let came = io::count(got, piece);
+    if came == 0 {
+        finish(t, list, line, *held, out);
+        return false;
+    }
+    talk(t, list, line, held, &piece[..came], out)
+}
+
+// A proved loop has to end, and nothing says that the input does: so the turns are counted down, from a number that no run uses up.
+fn most_turns() -> u64
+    ensures { λ r. ⌜ r ≡ 2 ^ 64 - 1 ⌝ }
+{
+    u64::MAX
+}
+
+// Reads piece after piece until the input ends or a file fails.
+fn run(
+    t: &mut [i32],
+    list: &mut [i32],
+    line: &mut [u8],
+    held: &mut usize,
+    piece: &mut [u8],
+    out: &mut [u8],
+)
+    requires { ⌜ CanServe (now list) (now line) (now held) (now out) ⌝ }
+    ensures { λ _. ⌜ Ran (now (t .entry)) (now (line .entry)) (now (held .entry)) (now (t .exit)) (now (line .exit)) (now (held .exit)) ⌝ }
+{
+    let mut turns = most_turns();
     while turns > 0 {
-        let got = io::count(libc::read(STDIN_FILENO, &mut *piece), piece);
-        if got == 0 {
-            finish(t, list, line, held, out);
-            return;
-        }
-        let said = talk(
+        let got = libc::read(STDIN_FILENO, &mut *piece);
+        if !turn(
             &mut *t,
             &mut *list,
             &mut *line,
-            held,
-            &piece[..got],
+            &mut *held,
+            got,
+            piece,
             &mut *out,
-        );
-        if !said.told {
+        ) {
             return;
         }
-        held = said.held;
         turns -= 1;
     }
 }
@@ -109,8 +150,16 @@ fn main() {
     let mut table = [0i32; 12400];
     let mut list = [0i32; 256];
     let mut line = [0u8; 129];
+    let mut held = 0;
     let mut piece = io::large_buffer();
     let mut out = io::large_buffer();
     begin(&mut table);
-    run(&mut table, &mut list, &mut line, &mut piece, &mut out);
+    run(
+        &mut table,
+        &mut list,
+        &mut line,
+        &mut held,
+        &mut piece,
+        &mut out,
+    );
 }

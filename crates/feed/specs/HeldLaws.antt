@@ -4,9 +4,10 @@ use mathlib.Core.List.{List, [], _∷_, _++_}
 use Prim.Native.Nat.{ℕ, _+_, _≤_, _<_}
 use native.Mathlib.Numerals.{add-one}
 use native.Mathlib.Omega.{arith}
+use native.Mathlib.Decide.{decLt}
 use lib.ListN.{length, take, set, length-set, length-append, length-take}
 use lib.Seq.{take-nil, take-all, length-take-le, take-append-le, take-suc-set}
-use Rattle.feed.specs.Held.{Held, KeepsByte}
+use Rattle.feed.specs.Held.{Held, Keeps}
 
 pub held-none : (buffer : List ℕ) → Held buffer 0 []
 held-none buffer = record { inside = omega arith; is = sym (take-nil (length buffer)) }
@@ -34,7 +35,11 @@ module _ {buffer : List ℕ} {n : ℕ} {line : List ℕ} (h : Held buffer n line
       let counted : length (take n buffer) ≡ length (take (length buffer) line) = ap length (h .is) in
       omega (arith, counted, length-take-le n buffer (h .inside), length-take (length buffer) line, h .inside)
 
-pub keeps-one : (buffer : List ℕ) (n b : ℕ) → n < length buffer → KeepsByte buffer n b (set buffer n b) (n + 1)
+-- whatever line was held, that line with the byte b behind it is held now
+abbrev pub KeepsByte : List ℕ → ℕ → ℕ → List ℕ → ℕ → Type 0
+KeepsByte buffer n b buffer′ n′ = (line : List ℕ) → Held buffer n line → Held buffer′ n′ (line ++ b ∷ [])
+
+keeps-one : (buffer : List ℕ) (n b : ℕ) → n < length buffer → KeepsByte buffer n b (set buffer n b) (n + 1)
 keeps-one buffer n b lt = λ line h.
     let long = length-set buffer n b in
     let whole = held-whole h lt in
@@ -45,6 +50,13 @@ keeps-one buffer n b lt = λ line h.
           (sym (take-all (length buffer) (line ++ b ∷ []) (omega (arith, many, length-append line (b ∷ [])))));
     }
 
-pub keeps-none : (buffer : List ℕ) (n b : ℕ) → length buffer ≤ n → KeepsByte buffer n b buffer n
+keeps-none : (buffer : List ℕ) (n b : ℕ) → length buffer ≤ n → KeepsByte buffer n b buffer n
 keeps-none buffer n b ge = λ line h.
     record { inside = h .inside; is = h .is ∙ sym (take-append-le (length buffer) line (b ∷ []) (held-over h ge)) }
+
+pub keeps-byte : {buffer : List ℕ} {n b : ℕ} {buffer′ : List ℕ} {n′ : ℕ} → Keeps buffer n b buffer′ n′ → KeepsByte buffer n b buffer′ n′
+keeps-byte {buffer} {n} {b} {buffer′} {n′} k = by (decLt n (length buffer))
+  where
+    by : Dec (n < length buffer) → KeepsByte buffer n b buffer′ n′
+    by (yes lt) = let e = k .room lt in rw (e .0, e .1) (keeps-one buffer n b lt)
+    by (no ge) = let e = k .full (omega arith) in rw (e .0, e .1) (keeps-none buffer n b (omega arith))

@@ -1,7 +1,9 @@
 //! Compares the desk program with a plain list of cells, byte by byte: desk PROGRAM
 
 use outside::desk::families::{Family, FAMILIES};
-use outside::desk::limits::{closed_input, closed_output, endless_line};
+use outside::desk::limits::{
+    closed_input, closed_output, endless_line, failed_read, long_talk, refused_last_answer,
+};
 use outside::desk::model::Desk;
 use outside::desk::program::Feeding;
 use outside::desk::session::Session;
@@ -129,7 +131,10 @@ fn main() -> ExitCode {
     }
     tally.check(held("byte by byte", Ok(byte_by_byte(program))));
     tally.check(held("endless line", endless_line(program)));
+    tally.check(held("long talk", Ok(long_talk(program))));
     tally.check(held("closed output", closed_output(program)));
+    tally.check(held("refused last answer", refused_last_answer(program)));
     tally.check(held("closed input", closed_input(program)));
+    tally.check(held("failed read", failed_read(program)));
     tally.report()
 }

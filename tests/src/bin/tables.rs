@@ -1,6 +1,7 @@
 //! Compares the calls of libcalls.a over tables with a plain scan and a judge of their own. With the
 //! argument `opened` it compares nothing, and counts the nodes that queries open over a day.
 
+use outside::pages::{Beside, Side};
 use outside::question::{Kind, Report, QUERY_NUMBERS};
 use outside::tables::library::{Answer, Library, Written};
 use outside::tables::model::Change;
@@ -95,8 +96,9 @@ fn change(table: &mut [i32], change: &Change) -> i32 {
 
 fn query(kind: Kind, table: &mut [i32], list: &mut [i32], numbers: &[i32; QUERY_NUMBERS]) -> Answer {
     let [start, end, xlow, xhigh, ylow, yhigh, xlow2, xhigh2, ylow2, yhigh2] = *numbers;
+    let side = Side::by(numbers.iter().fold(0, |mixed, number| mixed ^ number));
     // Neither is what any call answers, so that both must be written.
-    let (mut hits, mut opened) = (-77, -78);
+    let (mut hits, mut opened) = (Beside::holding(&[-77], side), Beside::holding(&[-78], side));
     let (words, places) = (table.len(), list.len());
     let (table, list) = (table.as_mut_ptr(), list.as_mut_ptr());
     // Table and list are ours, apart from each other, and lent with their lengths.
@@ -113,8 +115,8 @@ fn query(kind: Kind, table: &mut [i32], list: &mut [i32], numbers: &[i32; QUERY_
                 xhigh,
                 ylow,
                 yhigh,
-                &mut hits,
-                &mut opened,
+                hits.as_mut_ptr(),
+                opened.as_mut_ptr(),
             ),
             Kind::Moving => bradawlet_moving(
                 table,
@@ -131,22 +133,22 @@ fn query(kind: Kind, table: &mut [i32], list: &mut [i32], numbers: &[i32; QUERY_
                 xhigh2,
                 ylow2,
                 yhigh2,
-                &mut hits,
-                &mut opened,
+                hits.as_mut_ptr(),
+                opened.as_mut_ptr(),
             ),
         }
     };
-    Answer { number, hits, opened }
+    Answer { number, hits: hits[0], opened: opened[0] }
 }
 
 fn write(table: &mut [i32], bytes: &mut [u8]) -> Written {
-    // No call answers it, so that it must be written.
-    let mut total = -77;
     let (words, length) = (table.len(), bytes.len());
+    // No call answers it, so that it must be written.
+    let mut total = Beside::holding(&[-77], Side::by(length as i32));
+    let (table, bytes) = (table.as_mut_ptr(), bytes.as_mut_ptr());
     // Table and bytes are ours, apart from each other, and lent with their lengths.
-    let number =
-        unsafe { bradawlet_write(table.as_mut_ptr(), words, bytes.as_mut_ptr(), length, &mut total) };
-    Written { number, total }
+    let number = unsafe { bradawlet_write(table, words, bytes, length, total.as_mut_ptr()) };
+    Written { number, total: total[0] }
 }
 
 fn read(table: &mut [i32], cells: i32, bytes: &[u8]) -> i32 {

@@ -76,14 +76,24 @@ fn talk(
 }
 
 /// The program ends with success and says nothing on standard error.
-pub fn quiet_end(mut child: Child) -> io::Result<()> {
+pub fn quiet_end(child: Child) -> io::Result<()> {
+    let said = ended(child)?;
+    if said.is_empty() {
+        Ok(())
+    } else {
+        Err(io::Error::other(format!("on standard error: {}", String::from_utf8_lossy(&said))))
+    }
+}
+
+/// The program ends with success: what it says on standard error.
+pub fn ended(mut child: Child) -> io::Result<Vec<u8>> {
     let mut said = Vec::new();
     if let Some(mut stderr) = child.stderr.take() {
         stderr.read_to_end(&mut said)?;
     }
     let status = child.wait()?;
-    if status.success() && said.is_empty() {
-        Ok(())
+    if status.success() {
+        Ok(said)
     } else {
         Err(io::Error::other(format!("{status}, and on standard error: {}", String::from_utf8_lossy(&said))))
     }

@@ -1,10 +1,12 @@
-//! The calls of the library, and memory lent to them so that a stray write is seen.
+//! The calls of the library, and memory lent to them so that a stray read or write is seen.
 
 use super::model::Change;
 use super::scan::{Asked, Truth};
 use super::sheet::RECORD_NUMBERS;
+use crate::pages::{Beside, Side};
 use crate::question::{Kind, QUERY_NUMBERS};
 use crate::random::Random;
+use std::ops::Range;
 
 #[derive(Clone, Copy, Debug, PartialEq, Eq)]
 pub struct Answer {
@@ -33,54 +35,67 @@ pub struct Library {
     pub next: fn(&mut [i32], i32, &mut [i32; RECORD_NUMBERS]) -> i32,
 }
 
-/// Words or bytes that are lent, with some that are not on either side.
+/// Words or bytes that are lent, with pages without access next to them on one side, and on the other
+/// some more that are not lent and are compared.
 pub struct Lent<T> {
     before: Vec<T>,
-    now: Vec<T>,
+    now: Beside<T>,
+    lent: Range<usize>,
+    side: Side,
 }
 
-const SIDE: usize = 16;
+/// How many there are that are not lent.
+const OTHERS: usize = 32;
 
 impl Lent<i32> {
     pub fn of(random: &mut Random, words: &[i32]) -> Lent<i32> {
-        Lent::between(random.rubbish_words(SIDE), words, random.rubbish_words(SIDE))
+        let others = random.rubbish_words(OTHERS);
+        Lent::beside(Side::by(others[0]), words, &others)
     }
 }
 
 impl Lent<u8> {
     pub fn of_bytes(random: &mut Random, bytes: &[u8]) -> Lent<u8> {
-        Lent::between(random.rubbish_bytes(SIDE), bytes, random.rubbish_bytes(SIDE))
+        let others = random.rubbish_bytes(OTHERS);
+        Lent::beside(Side::by(others[0].into()), bytes, &others)
     }
 }
 
 impl<T: Copy + PartialEq> Lent<T> {
-    fn between(mut before: Vec<T>, lent: &[T], after: Vec<T>) -> Lent<T> {
-        before.extend(lent);
-        before.extend(after);
-        Lent { now: before.clone(), before }
+    pub fn beside(side: Side, lent: &[T], others: &[T]) -> Lent<T> {
+        let (before, start) = match side {
+            Side::Behind => ([others, lent].concat(), others.len()),
+            Side::Before => ([lent, others].concat(), 0),
+        };
+        let now = Beside::holding(&before, side);
+        Lent { before, now, lent: start..start + lent.len(), side }
+    }
+
+    /// Where the pages without access are.
+    pub fn side(&self) -> Side {
+        self.side
     }
 
     pub fn words(&mut self) -> &mut [T] {
-        let end = self.now.len() - SIDE;
-        &mut self.now[SIDE..end]
+        &mut self.now[self.lent.clone()]
     }
 
     /// As they were lent.
     pub fn lent(&self) -> &[T] {
-        &self.before[SIDE..self.before.len() - SIDE]
+        &self.before[self.lent.clone()]
     }
 
-    /// Whether there is now what was lent, in the same place and with the same on either side, but
-    /// for the words that are given.
+    /// Whether there is now what was lent, in the same place and with the same beside it, but for the
+    /// words that are given.
     pub fn is_now(&self, words: &[T]) -> bool {
-        let end = self.now.len() - SIDE;
-        self.now[..SIDE] == self.before[..SIDE]
-            && self.now[SIDE..end] == *words
+        let Range { start, end } = self.lent;
+        self.now[..start] == self.before[..start]
+            && self.now[start..end] == *words
             && self.now[end..] == self.before[end..]
     }
 
     pub fn untouched(&self) -> bool {
-        self.now == self.before
+        *self.now == *self.before
     }
 }
 

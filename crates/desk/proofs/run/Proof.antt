@@ -1,29 +1,47 @@
 use mathlib.Core.Path.{_≡_, refl}
+use mathlib.Core.List.{[]}
 use Prim.Native.Nat.{_≤_}
-use native.Mathlib.Omega.{arith}
 use lib.ListN.{length}
+use mir.Syntax.{w64}
+use mir.Val.{toZ, ofZ}
+use Rattle.whole.specs.Tells.{not-false}
+use Rattle.whole.specs.Within.{back}
+use Rattle.desk.specs.Talking.{heard-none}
+use Rattle.desk.specs.Running.{HeardSome, ran-out, turned-on, turned-last}
 use borrow.Author.Needs.{needs}
 use Rattle.desk.proofs.run.Statement.{statement}
 use Rattle.desk.proofs.run.Tie as tie
 
 abbrev Inv-loop : tie.InvT-loop
-Inv-loop t₀ list₀ line₀ piece₀ out₀ held₀ turns₀ t list line piece out held turns =
-    (length t ≡ length t₀) × (length list ≡ length list₀) × (length line ≡ length line₀) × (length piece ≡ length piece₀) × (length out ≡ length out₀) × (held ≤ length line)
+Inv-loop t₀ list₀ line₀ held₀ piece₀ out₀ turns₀ t list line held piece out turns =
+    (length t ≡ length t₀) × (length list ≡ length list₀) × (length line ≡ length line₀) × (length piece ≡ length piece₀) × (length out ≡ length out₀) × (held ≤ length line) × HeardSome t₀ line₀ held₀ t line held
 
 abbrev μ-loop : tie.MeasureT-loop
-μ-loop t₀ list₀ line₀ piece₀ out₀ held₀ turns₀ t list line piece out held turns = turns
+μ-loop t₀ list₀ line₀ held₀ piece₀ out₀ turns₀ t list line held piece out turns = turns
+
+-- the places of a turn: its start, and the read
+abbrev started : tie.After-turn Inv-loop μ-loop → tie.At-loop Inv-loop μ-loop
+started v = v .before .before .before .before .before .before .before .before .before .before .before .before
+
+abbrev called : tie.After-turn Inv-loop μ-loop → tie.After-read Inv-loop μ-loop
+called v = v .before .before .before .before .before .before .before .before .before
+
+got-is : (v : tie.After-turn Inv-loop μ-loop) → toZ w64 (ofZ w64 (called v .read .result)) ≡ called v .read .result
+got-is v = back (record { sfits = called v .read .ok })
+
+most-turns-requires : tie.Need-most-turns-requires Inv-loop μ-loop
+most-turns-requires c κs = search needs
 
 loop-holds : tie.Need-loop-holds Inv-loop μ-loop
-loop-holds c = (refl, refl, refl, refl, refl, omega arith)
+loop-holds c =
+    let s = c .before .before .before .before in
+    (refl, refl, refl, refl, refl, s .pre .held-in, ([], heard-none (s .args .t .now) (s .args .line .now) (s .args .held .now)))
 
 read-requires : tie.Need-read-requires Inv-loop μ-loop
 read-requires c κs = search needs
 
-count-requires : tie.Need-count-requires Inv-loop μ-loop
-count-requires c κs = search needs
-
-finish-requires : tie.Need-finish-requires Inv-loop μ-loop
-finish-requires c κs = search needs
+turn-requires : tie.Need-turn-requires Inv-loop μ-loop
+turn-requires c κs = search needs
 
 same-length : tie.Need-same-length Inv-loop μ-loop
 same-length c = search needs
@@ -41,16 +59,23 @@ same-length-5 : tie.Need-same-length-5 Inv-loop μ-loop
 same-length-5 c = search needs
 
 returns : tie.Need-returns Inv-loop μ-loop
-returns c = search needs
+returns c =
+    let v = c .before .before .before .before .before .before .before in
+    let read = called v .read in
+    turned-last (started v .loop .inv .6) (read .result) (rw (read .kept .1 .0) (read .ensures)) (rw (got-is v) at (v .turn .ensures))
 
-slice-reshare-prefix-talk : tie.Need-slice-reshare-prefix-talk Inv-loop μ-loop
-slice-reshare-prefix-talk c = search needs
+sub-turns : tie.Need-sub-turns Inv-loop μ-loop
+sub-turns c = search needs
 
-slice-aggregate-talk : tie.Need-slice-aggregate-talk Inv-loop μ-loop
-slice-aggregate-talk c = search needs
+loop-less : tie.Need-loop-less Inv-loop μ-loop
+loop-less c = search needs
 
-talk-requires : tie.Need-talk-requires Inv-loop μ-loop
-talk-requires c κs = search needs
+loop-again : tie.Need-loop-again Inv-loop μ-loop
+loop-again c =
+    let v = c .before .before .before .before .before .before .before in
+    let read = called v .read in
+    let heard = turned-on (started v .loop .inv .6) (read .result) (rw (read .kept .1 .0) (read .ensures)) (rw (got-is v) at (v .turn .ensures)) (not-false (c .if1 .left)) in
+    (search needs, search needs, search needs, search needs, search needs, v .turn .ensures .held-in, heard)
 
 same-length-6 : tie.Need-same-length-6 Inv-loop μ-loop
 same-length-6 c = search needs
@@ -68,34 +93,7 @@ same-length-10 : tie.Need-same-length-10 Inv-loop μ-loop
 same-length-10 c = search needs
 
 returns-2 : tie.Need-returns-2 Inv-loop μ-loop
-returns-2 c = search needs
-
-sub-turns : tie.Need-sub-turns Inv-loop μ-loop
-sub-turns c = search needs
-
-loop-less : tie.Need-loop-less Inv-loop μ-loop
-loop-less c = search needs
-
-loop-again : tie.Need-loop-again Inv-loop μ-loop
-loop-again c = search needs
-
-same-length-11 : tie.Need-same-length-11 Inv-loop μ-loop
-same-length-11 c = search needs
-
-same-length-12 : tie.Need-same-length-12 Inv-loop μ-loop
-same-length-12 c = search needs
-
-same-length-13 : tie.Need-same-length-13 Inv-loop μ-loop
-same-length-13 c = search needs
-
-same-length-14 : tie.Need-same-length-14 Inv-loop μ-loop
-same-length-14 c = search needs
-
-same-length-15 : tie.Need-same-length-15 Inv-loop μ-loop
-same-length-15 c = search needs
-
-returns-3 : tie.Need-returns-3 Inv-loop μ-loop
-returns-3 c = search needs
+returns-2 c = ran-out (c .before .loop .inv .6)
 
 pub run-spec : {M : Type 1} → statement M
 run-spec =
@@ -103,31 +101,22 @@ run-spec =
     (tie.spec
     Inv-loop
     μ-loop
+    most-turns-requires
     loop-holds
     read-requires
-    count-requires
-    finish-requires
+    turn-requires
     same-length
     same-length-2
     same-length-3
     same-length-4
     same-length-5
     returns
-    slice-reshare-prefix-talk
-    slice-aggregate-talk
-    talk-requires
+    sub-turns
+    loop-less
+    loop-again
     same-length-6
     same-length-7
     same-length-8
     same-length-9
     same-length-10
-    returns-2
-    sub-turns
-    loop-less
-    loop-again
-    same-length-11
-    same-length-12
-    same-length-13
-    same-length-14
-    same-length-15
-    returns-3)
+    returns-2)

@@ -1,5 +1,6 @@
+use mathlib.Core.Path.{refl}
+use native.Mathlib.Omega.{arith}
 use borrow.Author.Needs.{needs}
-use Rattle.feed.specs.HeldLaws.{keeps-one, keeps-none}
 use Rattle.feed.proofs.keep.Statement.{statement}
 use Rattle.feed.proofs.keep.Tie as tie
 
@@ -13,10 +14,10 @@ same-length : tie.Need-same-length
 same-length c = search needs
 
 returns : tie.Need-returns
-returns c = let a = c .before .args in keeps-one (a .buffer .now) (a .held) (a .b) (c .if1 .taken)
+returns c = record { room = λ lt. (refl, refl); full = λ ge. absurd (omega (arith, c .if1 .taken)) }
 
 returns-2 : tie.Need-returns-2
-returns-2 c = let a = c .before .args in keeps-none (a .buffer .now) (a .held) (a .b) (c .if1 .left)
+returns-2 c = record { room = λ lt. absurd (omega (arith, c .if1 .left)); full = λ ge. (refl, refl) }
 
 pub keep-spec : {M : Type 1} → statement M
 keep-spec = tie.close (tie.spec slice-write-buffer add-result same-length returns returns-2)

@@ -122,7 +122,11 @@ fn read(
     family: &mut Family,
 ) {
     let mut lent = Lent::of(random, words);
-    let number = (library.read)(lent.words(), capacity, bytes);
+    let mut given = Lent::beside(lent.side(), bytes, &[]);
+    let number = (library.read)(lent.words(), capacity, given.words());
+    if !given.untouched() {
+        family.wrong("the sheet's bytes are written");
+    }
     let here = format!("{} bytes into {} words for {capacity} cells", bytes.len(), words.len());
     match expected(words, capacity, bytes) {
         Err(refusal) => {
@@ -147,7 +151,8 @@ fn read(
             }
             let mut after = lent.words().to_vec();
             family.note(not_as_said(&after, capacity, &said).map(|what| format!("{what}, {here}")));
-            family.note(not_written_back(library, &mut after, bytes).map(|what| format!("{what}, {here}")));
+            let back = not_written_back(library, &mut lent, bytes);
+            family.note(back.map(|what| format!("{what}, {here}")));
             after[words_for(capacity)..].copy_from_slice(&words[words_for(capacity)..]);
             if !lent.is_now(&after) {
                 family.wrong(format!("words past its need are written, {here}"));
@@ -172,9 +177,9 @@ fn not_as_said(words: &[i32], capacity: i32, said: &Said) -> Option<String> {
     stale.then(|| "an entry stamped at another minute".to_string())
 }
 
-fn not_written_back(library: &Library, words: &mut [i32], bytes: &[u8]) -> Option<String> {
-    let mut buffer = vec![0; bytes.len()];
-    let written = (library.write)(words, &mut buffer);
-    let as_it_was = written == Written { number: 0, total: bytes.len() as i32 } && buffer == bytes;
+fn not_written_back(library: &Library, table: &mut Lent<i32>, bytes: &[u8]) -> Option<String> {
+    let mut buffer = Lent::beside(table.side(), &vec![0; bytes.len()], &[]);
+    let written = (library.write)(table.words(), buffer.words());
+    let as_it_was = written == Written { number: 0, total: bytes.len() as i32 } && buffer.is_now(bytes);
     (!as_it_was).then(|| format!("written back as {written:?}, or as other bytes"))
 }

@@ -38,7 +38,7 @@ returns c =
     let at = c .before .before in
     let s = at .before .before .before .before in
     let i = at .loop .inv in
-    so-far-serves (i .4) (λ some. some-taken (i .4) (omega (arith, i .3, s .pre .answer-room)) (c .if1 .taken))
+    so-far-serves (i .4) (λ some. some-taken (i .4) (omega (arith, i .3, s .pre .answer-room)) (c .if1 .taken)) (λ room. absurd (omega (arith, c .if1 .taken)))
 
 shared-slice-read-take-byte : tie.Need-shared-slice-read-take-byte Inv-loop μ-loop
 shared-slice-read-take-byte c = c .before .before .before .before .before .before .loop-test .taken
@@ -80,7 +80,9 @@ same-length-8 : tie.Need-same-length-8 Inv-loop μ-loop
 same-length-8 c = c .before .loop .inv .3
 
 returns-2 : tie.Need-returns-2 Inv-loop μ-loop
-returns-2 c = so-far-serves (c .before .loop .inv .4) (λ some. omega (arith, c .loop-test .left))
+returns-2 c =
+    let so-far = c .before .loop .inv .4 in
+    so-far-serves so-far (λ some. omega (arith, c .loop-test .left)) (λ room. omega (arith, so-far .taken-in, c .loop-test .left))
 
 pub serve-spec : {M : Type 1} → statement M
 serve-spec =

@@ -1,6 +1,7 @@
 use native.Mathlib.Omega.{arith}
 use Prim.Native.Nat.{_-_}
 use lib.ListN.{length, drop, length-take, length-drop}
+use Rattle.feed.specs.HeldLaws.{keeps-byte}
 use Rattle.answering.specs.Serving.{heard-byte, heard-lent, answer-fits}
 use borrow.Author.Needs.{needs}
 use Rattle.answering.proofs.serving.take_byte.Statement.{statement}
@@ -17,7 +18,7 @@ returns c =
     let kept = c .before .before in
     let other = kept .before .before in
     let s = other .before .before .before in
-    heard-byte (other .if1 .taken) (s .pre .2) (omega (arith, s .pre .3)) (kept .keep .ensures)
+    heard-byte (other .if1 .taken) (s .pre .2) (omega (arith, s .pre .3)) (keeps-byte (kept .keep .ensures))
 
 sub-answer-held : tie.Need-sub-answer-held
 sub-answer-held c = search needs
