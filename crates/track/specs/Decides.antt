@@ -9,7 +9,7 @@ use lib.ListN.{getD}
 use native.Mathlib.Omega.{arith}
 use Rattle.whole.specs.Difference.{all2, all4, difs}
 use Rattle.whole.specs.Order.{of-gap, gap-of, ring, *ℤ-one}
-use Rattle.whole.specs.Tells.{Tells, tells-as, decided}
+use Rattle.whole.specs.Tells.{Tells, tells-as, failed, decided}
 use Rattle.track.specs.Meets.{Instant, InQuery, Row, low, high, lowVelocity, highVelocity, span, edgeAt, movedAt, Touches, Bounds, Meets}
 use Rattle.track.specs.Cut.{Inside, Proper, Above, cutTo, cut-law, livesIn, lives-law}
 use Rattle.track.specs.declared.interval.Interval.{Interval}
@@ -43,9 +43,12 @@ alongTo start span e r i =
 abbrev pub wholeOf : Query → Interval
 wholeOf k = record { lo = k .start .at; lod = pos 1; hi = k .end .at; hid = pos 1 }
 
--- the instants of the query at which the bounds touch its rectangle
+-- the instants of the query at which the bounds touch its rectangle on x, and those at which they do on y as well
+abbrev pub onX : Bounds → Query → Interval
+onX b k = alongTo (k .start .at) (span k) (k .x) (getD b 0 []) (wholeOf k)
+
 unfoldable pub meetingOf : Bounds → Query → Interval
-meetingOf b k = alongTo (k .start .at) (span k) (k .y) (getD b 1 []) (alongTo (k .start .at) (span k) (k .x) (getD b 0 []) (wholeOf k))
+meetingOf b k = alongTo (k .start .at) (span k) (k .y) (getD b 1 []) (onX b k)
 
 unfoldable pub meetsIn : Bounds → ℤ → Query → Bool
 meetsIn b expiry k = livesIn (meetingOf b k) expiry
@@ -132,7 +135,7 @@ pub meeting-law : (b : Bounds) (k : Query) → Meeting b k (meetingOf b k)
 unfolding meetingOf
 meeting-law b k =
     let x = along-law k (k .x) (getD b 0 []) (wholeOf k) (whole-proper k) in
-    let y = along-law k (k .y) (getD b 1 []) (alongTo (k .start .at) (span k) (k .x) (getD b 0 []) (wholeOf k)) (x .proper) in
+    let y = along-law k (k .y) (getD b 1 []) (onX b k) (x .proper) in
     record {
       proper = y .proper;
       into = λ t m on-x on-y. y .into t (x .into t (whole-law k t .1 m) on-x) on-y;
@@ -151,6 +154,13 @@ meets-law b expiry k =
     let n = during .back (m .at) (m .inside) in
     record { at = m .at; in-query = n .0; in-life = m .in-life; on-x = n .1; on-y = n .2 })
     (λ m. record { at = m .at; inside = during .into (m .at) (m .in-query) (m .on-x) (m .on-y); in-life = m .in-life })
+
+-- what is on x at no instant in life meets nothing
+pub never-on-x : (b : Bounds) (expiry : ℤ) (k : Query) → livesIn (onX b k) expiry ≡ false → Meets b expiry k → ⊥
+never-on-x b expiry k e m =
+    let x = along-law k (k .x) (getD b 0 []) (wholeOf k) (whole-proper k) in
+    failed (lives-law (onX b k) expiry (x .proper)) e
+    (record { at = m .at; inside = x .into (m .at) (whole-law k (m .at) .1 (m .in-query)) (m .on-x); in-life = m .in-life })
 
 -- so whether bounds meet a query is decided
 pub meets? : (b : Bounds) (expiry : ℤ) (k : Query) → Dec (Meets b expiry k)
