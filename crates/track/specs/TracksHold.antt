@@ -18,7 +18,6 @@ use Rattle.track.specs.Cut.{Inside, Proper, cutTo, livesIn, in-order}
 use Rattle.track.specs.Decides.{wholeOf, meetsIn, meetingOf, alongTo, along-law, whole-proper, whole-law, meeting-law, meets-law}
 use Rattle.track.specs.Tracks.{Stretch, _to_, During, Throughout, Claim, meets, misses, meetsFrom, missesApart, keeps, spans, InsideOn, Holds, Track, P, tracks, AllHold}
 use Rattle.track.specs.declared.interval.Interval.{Interval}
-use Rattle.track.specs.declared.cell.Cell.{Cell}
 use Rattle.track.specs.declared.query.Edges.{Edges}
 use Rattle.track.specs.declared.query.Query.{Query}
 
