@@ -29,7 +29,7 @@ heldTo bound z = cond (ltZ z (negℤ bound)) (negℤ bound) (cond (ltZ bound z) 
 abbrev pub extentOf : Row → ℤ → Extent
 extentOf row minute = record { low = lowAt minute row; high = highAt minute row; slowest = lowVelocity row; fastest = highVelocity row }
 
--- the extent with which any other is what it was
+-- covers nothing: with it, any other of a sound table is what it was
 abbrev pub noExtent : Extent
 noExtent = record { low = farthest; high = negℤ farthest; slowest = fastestEdge; fastest = negℤ fastestEdge }
 
@@ -66,6 +66,10 @@ noCover = record { x = noExtent; y = noExtent }
 
 abbrev pub bothCovers : Cover → Cover → Cover
 bothCovers c d = record { x = bothExtents (c .x) (d .x); y = bothExtents (c .y) (d .y) }
+
+-- the area after t minutes
+abbrev pub areaAfter : Cover → ℤ → ℤ
+areaAfter k t = (widthOf (k .x) +ℤ growthOf (k .x) *ℤ t) *ℤ (widthOf (k .y) +ℤ growthOf (k .y) *ℤ t)
 
 -- six times the integral of the area (a + b t) (c + d t), from t = 0 to the horizon h: 6 a c h + 3 (a d + b c) h² + 2 b d h³,
 -- where a and c are the widths and b and d their growths
