@@ -1,9 +1,11 @@
 // The area that bounds cover over the coming minutes: the integral of the paper on the TPR-tree, §3.3, formula 1.
 use whole::wide;
-ghost use lib.IntN.{pos, natAbs};
+ghost use mathlib.Core.Path.{_≡_};
+ghost use lib.IntN.{pos, _+ℤ_, _*ℤ_};
 ghost use lib.Signed.{_≤ℤ_};
 ghost use Prim.Native.Nat.{_^_};
-ghost use Rattle.whole.specs.Within.{Within};
+ghost use Rattle.track.specs.Hull.{lesser, greater};
+ghost use Rattle.choice.specs.Area.{heldTo, extentOf, noExtent, bothExtents, widthOf, growthOf, placeOf, velocityOf, coverOf, noCover, bothCovers, areaIntegral};
 
 // The minutes that a choice looks ahead.
 const HORIZON: i64 = 30;
@@ -27,18 +29,22 @@ pub struct Cover {
     pub y: Extent,
 }
 
-fn lesser(a: i64, b: i64) -> i64 {
+fn lesser(a: i64, b: i64) -> i64
+    ensures { λ r. ⌜ r ≡ lesser a b ⌝ }
+{
     if b < a { b } else { a }
 }
 
-fn greater(a: i64, b: i64) -> i64 {
+fn greater(a: i64, b: i64) -> i64
+    ensures { λ r. ⌜ r ≡ greater a b ⌝ }
+{
     if a < b { b } else { a }
 }
 
 // z, or the nearest number within the bound. No number of a sound table is changed; of other words the products fit as well.
 fn held(z: i64, bound: i64) -> i64
     requires { ⌜ (pos 0 ≤ℤ bound) × (bound ≤ℤ pos (2 ^ 23)) ⌝ }
-    ensures { λ r. ⌜ Within (natAbs bound) r ⌝ }
+    ensures { λ r. ⌜ r ≡ heldTo bound z ⌝ }
 {
     if z < -bound {
         return -bound;
@@ -50,12 +56,17 @@ fn held(z: i64, bound: i64) -> i64
 }
 
 // Where an edge that is at `at` at minute 0 and goes by v is at the minute.
-fn edge_at(at: i32, v: i32, minute: i32) -> i64 {
+fn edge_at(at: i32, v: i32, minute: i32) -> i64
+    ensures { λ r. ⌜ r ≡ at +ℤ v *ℤ minute ⌝ }
+{
     wide(at) + wide(v) * wide(minute)
 }
 
 impl Extent {
-    pub fn of(row: [i32; 4], minute: i32) -> Extent {
+    // What the row covers at the minute.
+    pub fn of(row: [i32; 4], minute: i32) -> Extent
+        ensures { λ r. ⌜ r ≡ extentOf row minute ⌝ }
+    {
         Extent {
             low: edge_at(row[0], row[2], minute),
             high: edge_at(row[1], row[3], minute),
@@ -64,7 +75,9 @@ impl Extent {
         }
     }
 
-    fn nothing() -> Extent {
+    fn nothing() -> Extent
+        ensures { λ r. ⌜ r ≡ noExtent ⌝ }
+    {
         Extent {
             low: FARTHEST,
             high: -FARTHEST,
@@ -74,7 +87,9 @@ impl Extent {
     }
 
     // The least extent that covers both from the minute on.
-    fn with(self, other: Extent) -> Extent {
+    fn with(self, other: Extent) -> Extent
+        ensures { λ r. ⌜ r ≡ bothExtents self other ⌝ }
+    {
         Extent {
             low: lesser(self.low, other.low),
             high: greater(self.high, other.high),
@@ -85,46 +100,58 @@ impl Extent {
 
     // Edges count, so one place is 1 wide: without that, bounds on a line would all have the area 0, however long they are.
     fn width(self) -> i64
-        ensures { λ r. ⌜ Within (2 ^ 23) r ⌝ }
+        ensures { λ r. ⌜ r ≡ widthOf self ⌝ }
     {
         held(self.high, FARTHEST) - held(self.low, FARTHEST) + 1
     }
 
     // By how much the width grows in a minute.
     fn growth(self) -> i64
-        ensures { λ r. ⌜ Within (2 ^ 10) r ⌝ }
+        ensures { λ r. ⌜ r ≡ growthOf self ⌝ }
     {
         held(self.fastest, FASTEST) - held(self.slowest, FASTEST)
     }
 
     // Twice the middle.
-    pub fn place(self) -> i64 {
+    pub fn place(self) -> i64
+        ensures { λ r. ⌜ r ≡ placeOf self ⌝ }
+    {
         held(self.low, FARTHEST) + held(self.high, FARTHEST)
     }
 
     // Twice the middle of the velocities.
-    pub fn velocity(self) -> i64 {
+    pub fn velocity(self) -> i64
+        ensures { λ r. ⌜ r ≡ velocityOf self ⌝ }
+    {
         held(self.slowest, FASTEST) + held(self.fastest, FASTEST)
     }
 }
 
 impl Cover {
     // What covers nothing: with it, any other is what it was.
-    pub fn nothing() -> Cover {
+    pub fn nothing() -> Cover
+        ensures { λ r. ⌜ r ≡ noCover ⌝ }
+    {
         Cover {
             x: Extent::nothing(),
             y: Extent::nothing(),
         }
     }
 
-    pub fn of(b: [[i32; 4]; 2], minute: i32) -> Cover {
+    // What the bounds cover at the minute.
+    pub fn of(b: [[i32; 4]; 2], minute: i32) -> Cover
+        ensures { λ r. ⌜ r ≡ coverOf b minute ⌝ }
+    {
         Cover {
             x: Extent::of(b[0], minute),
             y: Extent::of(b[1], minute),
         }
     }
 
-    pub fn with(self, other: Cover) -> Cover {
+    // What covers both.
+    pub fn with(self, other: Cover) -> Cover
+        ensures { λ r. ⌜ r ≡ bothCovers self other ⌝ }
+    {
         Cover {
             x: self.x.with(other.x),
             y: self.y.with(other.y),
@@ -133,7 +160,7 @@ impl Cover {
 
     // Six times the integral of the area (a + bt)(c + dt) over the horizon H, which is acH + (ad + bc)H²/2 + bdH³/3: whole for every H.
     pub fn integral(self) -> i64
-        ensures { λ r. ⌜ Within (2 ^ 54) r ⌝ }
+        ensures { λ r. ⌜ r ≡ areaIntegral self ⌝ }
     {
         let a = self.x.width();
         let b = self.x.growth();

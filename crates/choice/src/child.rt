@@ -3,10 +3,11 @@ use crate::area::Cover;
 use node::entry::bounds;
 use node::entry::count;
 ghost use mathlib.Core.Path.{_≡_};
-ghost use mathlib.Core.Logic.{_⊎_};
 ghost use Prim.Native.Nat.{_<_};
+ghost use Rattle.whole.specs.Tells.{Tells};
 ghost use Rattle.words.specs.Layout.{fullNode};
 ghost use Rattle.node.specs.Entry.{countOf};
+ghost use Rattle.choice.specs.Child.{childCost, Cheaper, Cheapest, CheaperOf};
 
 // What it costs a child to take a cell in: the growth of its area integral, and the integral that it had.
 pub struct Cost {
@@ -15,7 +16,9 @@ pub struct Cost {
 }
 
 impl Cost {
-    fn less_than(self, other: Cost) -> bool {
+    fn less_than(self, other: Cost) -> bool
+        ensures { λ r. ⌜ Tells r (Cheaper self other) ⌝ }
+    {
         if self.growth == other.growth {
             self.before < other.before
         } else {
@@ -27,6 +30,7 @@ impl Cost {
 // What it costs entry k to take in what has these bounds.
 fn cost_of(node: &[i32], k: usize, b: [[i32; 4]; 2], minute: i32) -> Cost
     requires { ⌜ k < fullNode ⌝ }
+    ensures { λ r. ⌜ r ≡ childCost (now (node .entry)) k b minute ⌝ }
 {
     let own = Cover::of(bounds(node, k, false), minute);
     let both = own.with(Cover::of(b, minute));
@@ -40,7 +44,7 @@ fn cost_of(node: &[i32], k: usize, b: [[i32; 4]; 2], minute: i32) -> Cost
 // The entry that takes in these bounds at the least cost, the first of several.
 pub fn best_child(node: &[i32], b: [[i32; 4]; 2], minute: i32) -> usize
     requires { ⌜ 0 < countOf (now node) ⌝ }
-    ensures { λ r. ⌜ r < countOf (now (node .entry)) ⌝ }
+    ensures { λ r. ⌜ Cheapest (now (node .entry)) b minute r ⌝ }
 {
     let n = count(node);
     let mut best = 0;
@@ -60,7 +64,7 @@ pub fn best_child(node: &[i32], b: [[i32; 4]; 2], minute: i32) -> usize
 // Which of two entries takes in these bounds at the lesser cost, the first where they are equal.
 pub fn better_child(node: &[i32], j: usize, k: usize, b: [[i32; 4]; 2], minute: i32) -> usize
     requires { ⌜ (j < fullNode) × (k < fullNode) ⌝ }
-    ensures { λ r. ⌜ (r ≡ j) ⊎ (r ≡ k) ⌝ }
+    ensures { λ r. ⌜ CheaperOf (now (node .entry)) j k b minute r ⌝ }
 {
     let own = cost_of(node, j, b, minute);
     let other = cost_of(node, k, b, minute);

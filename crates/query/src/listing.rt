@@ -65,7 +65,8 @@ pub fn answered(t: &[i32], list: &mut [i32], asked: Asked) -> Answer
     requires { ⌜ Judged (now t) asked ⌝ }
     ensures { λ r. ⌜ Answers (judgedReasons (now (t .entry)) asked (now (list .entry))) (now (t .entry)) (askedQuery asked) (now (list .entry)) r (now (list .exit)) ⌝ }
 {
-    if !is_sound(t) {
+    let sound = is_sound(t);
+    if !sound {
         return Answer::Refused(Refusal::NotSound);
     }
     match asked {

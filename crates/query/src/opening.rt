@@ -26,7 +26,8 @@ fn entry_meets(node: &[i32], e: usize, height: usize, k: Query) -> bool
     ensures { λ r. ⌜ Tells r (EntryMeets k (isLeaf height) (entryAt (now (node .entry)) e)) ⌝ }
 {
     let leaf = height == 0;
-    meets(bounds(node, e, leaf), until(node, e, leaf), k)
+    let last = until(node, e, leaf);
+    meets(bounds(node, e, leaf), last, k)
 }
 
 // The identifier of a leaf's entry e, as a key.

@@ -232,7 +232,7 @@ in-order·q : (l u p q d : ℤ) → pos 0 ≤ℤ d → (e : ℤ) → pos 0 ≤�
 in-order·q = all4 _ λ _ _ _ _ _ _ _ _. nat _ λ d. nat _ λ e. simp difs (λ k m. omega (arith, mul-le-mul-right e k, mul-le-mul-right d m))
 
 -- an instant between l/d and u/e shows that they are in order
-in-order : (l d u e : ℤ) (t : Instant) → pos 1 ≤ℤ d → pos 1 ≤ℤ e → (l *ℤ t .q) ≤ℤ (t .p *ℤ d) → (t .p *ℤ e) ≤ℤ (u *ℤ t .q) → (l *ℤ e) ≤ℤ (u *ℤ d)
+pub in-order : (l d u e : ℤ) (t : Instant) → pos 1 ≤ℤ d → pos 1 ≤ℤ e → (l *ℤ t .q) ≤ℤ (t .p *ℤ d) → (t .p *ℤ e) ≤ℤ (u *ℤ t .q) → (l *ℤ e) ≤ℤ (u *ℤ d)
 in-order l d u e t g h k m = of-gap _ _ (cancel (t .q) _ (t .q-positive) (in-order·q l u (t .p) (t .q) d (positive g) e (positive h) k m))
 
 in-order-lives : (i : Interval) (expiry : ℤ) → Proper i → (i .lo *ℤ i .hid) ≤ℤ (i .hi *ℤ i .lod) → Tells (leZ (i .lo) (expiry *ℤ i .lod)) (SomeIn i expiry)

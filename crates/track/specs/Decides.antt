@@ -1,5 +1,6 @@
 -- The meeting test on numbers of any size, and the law that it tells `Meets`, proved once for any axis.
 use mathlib.Core.Path.{_≡_, ap, _∙_}
+use mathlib.Core.Logic.{_↔_}
 use mathlib.Core.Bool.{Bool, true, false}
 use mathlib.Core.List.{[]}
 use lib.IntN.{ℤ, pos, negℤ, _+ℤ_, _-ℤ_, _*ℤ_}
@@ -8,8 +9,8 @@ use lib.ListN.{getD}
 use native.Mathlib.Omega.{arith}
 use Rattle.whole.specs.Difference.{all2, all4, difs}
 use Rattle.whole.specs.Order.{of-gap, gap-of, ring, *ℤ-one}
-use Rattle.whole.specs.Tells.{Tells, tells-as, decided}
-use Rattle.track.specs.Meets.{Instant, Row, low, high, lowVelocity, highVelocity, span, edgeAt, movedAt, Touches, Bounds, Meets}
+use Rattle.whole.specs.Tells.{Tells, tells-as, failed, decided}
+use Rattle.track.specs.Meets.{Instant, InQuery, Row, low, high, lowVelocity, highVelocity, span, edgeAt, movedAt, Touches, Bounds, Meets}
 use Rattle.track.specs.Cut.{Inside, Proper, Above, cutTo, cut-law, livesIn, lives-law}
 use Rattle.track.specs.declared.interval.Interval.{Interval}
 use Rattle.track.specs.declared.interval.Line.{Line}
@@ -42,9 +43,12 @@ alongTo start span e r i =
 abbrev pub wholeOf : Query → Interval
 wholeOf k = record { lo = k .start .at; lod = pos 1; hi = k .end .at; hid = pos 1 }
 
--- the instants of the query at which the bounds touch its rectangle
+-- the instants of the query at which the bounds touch its rectangle on x, and those at which they do on y as well
+abbrev pub onX : Bounds → Query → Interval
+onX b k = alongTo (k .start .at) (span k) (k .x) (getD b 0 []) (wholeOf k)
+
 unfoldable pub meetingOf : Bounds → Query → Interval
-meetingOf b k = alongTo (k .start .at) (span k) (k .y) (getD b 1 []) (alongTo (k .start .at) (span k) (k .x) (getD b 0 []) (wholeOf k))
+meetingOf b k = alongTo (k .start .at) (span k) (k .y) (getD b 1 []) (onX b k)
 
 unfoldable pub meetsIn : Bounds → ℤ → Query → Bool
 meetsIn b expiry k = livesIn (meetingOf b k) expiry
@@ -110,34 +114,53 @@ along-law k e row i s =
           (o .0, record { below = under-back k (e .high) (e .high2) (low row) (lowVelocity row) t (o .1); above = over-back k (e .low) (e .low2) (high row) (highVelocity row) t (n .1) });
     }
 
--- ---- both axes
-whole-proper : (k : Query) → Proper (wholeOf k)
+-- ---- the query's own times
+pub whole-proper : (k : Query) → Proper (wholeOf k)
 whole-proper k = record { lod-positive = leZ-yes tt; hid-positive = leZ-yes tt }
 
-pub meets-law : (b : Bounds) (expiry : ℤ) (k : Query) → Tells (meetsIn b expiry k) (Meets b expiry k)
-unfolding meetsIn meetingOf
-meets-law b expiry k =
+pub whole-law : (k : Query) (t : Instant) → Inside (wholeOf k) t ↔ InQuery k t
+whole-law k t = (
+  λ m. record { from = rw *ℤ-one at (m .after); to = rw *ℤ-one at (m .until) },
+  λ m. record { after = rw *ℤ-one (m .from); until = rw *ℤ-one (m .to) },
+)
+
+-- ---- both axes
+-- r holds the instants of the query at which the bounds touch its rectangle
+pub record Meeting (b : Bounds) (k : Query) (r : Interval) : Type 0 where
+  pub proper : Proper r
+  pub into : (t : Instant) → InQuery k t → Touches k (k .x) (getD b 0 []) t → Touches k (k .y) (getD b 1 []) t → Inside r t
+  pub back : (t : Instant) → Inside r t → InQuery k t × Touches k (k .x) (getD b 0 []) t × Touches k (k .y) (getD b 1 []) t
+
+pub meeting-law : (b : Bounds) (k : Query) → Meeting b k (meetingOf b k)
+unfolding meetingOf
+meeting-law b k =
     let x = along-law k (k .x) (getD b 0 []) (wholeOf k) (whole-proper k) in
-    let y = along-law k (k .y) (getD b 1 []) (alongTo (k .start .at) (span k) (k .x) (getD b 0 []) (wholeOf k)) (x .proper) in
-    tells-as (lives-law (meetingOf b k) expiry (y .proper))
-    (λ m.
-    let n = y .back (m .at) (m .inside) in
-    let o = x .back (m .at) (n .0) in
+    let y = along-law k (k .y) (getD b 1 []) (onX b k) (x .proper) in
     record {
-      at = m .at;
-      in-query = record { from = rw *ℤ-one at (o .0 .after); to = rw *ℤ-one at (o .0 .until) };
-      in-life = m .in-life;
-      on-x = o .1;
-      on-y = n .1;
-    })
-    (λ m. record {
-      at = m .at;
-      inside =
-          y .into (m .at)
-          (x .into (m .at) (record { after = rw *ℤ-one (m .in-query .from); until = rw *ℤ-one (m .in-query .to) }) (m .on-x))
-          (m .on-y);
-      in-life = m .in-life;
-    })
+      proper = y .proper;
+      into = λ t m on-x on-y. y .into t (x .into t (whole-law k t .1 m) on-x) on-y;
+      back = λ t m.
+          let n = y .back t m in
+          let o = x .back t (n .0) in
+          (whole-law k t .0 (o .0), o .1, n .1);
+    }
+
+pub meets-law : (b : Bounds) (expiry : ℤ) (k : Query) → Tells (meetsIn b expiry k) (Meets b expiry k)
+unfolding meetsIn
+meets-law b expiry k =
+    let during = meeting-law b k in
+    tells-as (lives-law (meetingOf b k) expiry (during .proper))
+    (λ m.
+    let n = during .back (m .at) (m .inside) in
+    record { at = m .at; in-query = n .0; in-life = m .in-life; on-x = n .1; on-y = n .2 })
+    (λ m. record { at = m .at; inside = during .into (m .at) (m .in-query) (m .on-x) (m .on-y); in-life = m .in-life })
+
+-- what is on x at no instant in life meets nothing
+pub never-on-x : (b : Bounds) (expiry : ℤ) (k : Query) → livesIn (onX b k) expiry ≡ false → Meets b expiry k → ⊥
+never-on-x b expiry k e m =
+    let x = along-law k (k .x) (getD b 0 []) (wholeOf k) (whole-proper k) in
+    failed (lives-law (onX b k) expiry (x .proper)) e
+    (record { at = m .at; inside = x .into (m .at) (whole-law k (m .at) .1 (m .in-query)) (m .on-x); in-life = m .in-life })
 
 -- so whether bounds meet a query is decided
 pub meets? : (b : Bounds) (expiry : ℤ) (k : Query) → Dec (Meets b expiry k)

@@ -12,5 +12,6 @@ pub mod Answer
 pub mod AnswerLaws
 pub mod Hull
 pub mod Tracks
+pub mod TracksHold
 pub mod HullLaws
 pub mod HullRange

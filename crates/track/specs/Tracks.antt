@@ -1,36 +1,82 @@
--- The tracks P1 to P9 as one table, and one statement over it: each row is as the definitions say.
-use mathlib.Core.Path.{_≡_, refl, ap₂}
-use mathlib.Core.Bool.{Bool, true, false, not, cond}
+-- The tracks P1 to P9 as one table, and what a row says. `tracks-hold` (TracksHold) is the one statement over it.
+use mathlib.Core.Path.{_≡_}
+use mathlib.Core.Logic.{_↔_}
 use mathlib.Core.List.{List, [], _∷_}
+use Prim.Native.Nat.{ℕ}
 use lib.Dec.{T}
-use lib.IntN.{ℤ, pos, negℤ}
-use lib.Signed.{leZ, leZ-yes}
-use Rattle.whole.specs.Order.{≤ℤ-antisym}
-use Rattle.whole.specs.Tells.{Tells}
+use lib.IntN.{ℤ, pos, negℤ, _*ℤ_}
+use lib.ListN.{getD}
+use lib.Signed.{_≤ℤ_, leZ, leZ-yes}
 use Rattle.track.specs.Numbers.{kept}
 use Rattle.track.specs.Report.{keptCell}
 use Rattle.track.specs.Query.{queryFrom, windowFrom}
-use Rattle.track.specs.Meets.{Row, CellMeets, cellBounds, span}
-use Rattle.track.specs.Hull.{hull, lowAt, highAt, picked, lesser, greater}
-use Rattle.track.specs.Cut.{cutTo, livesIn}
-use Rattle.track.specs.Decides.{meetsIn, meetingOf, alongTo, meets-law}
+use Rattle.track.specs.Meets.{Instant, InQuery, Row, Touches, MeetsAt, CellMeets, cellBounds}
+use Rattle.track.specs.Hull.{hull, lowAt, highAt}
 use Rattle.track.specs.declared.cell.Cell.{Cell}
+use Rattle.track.specs.declared.query.Edges.{Edges}
 use Rattle.track.specs.declared.query.Query.{Query}
 
-pub data Track : Type 0 where
-  -- a cell that meets a query, and one that does not
-  hit : Cell → Query → Track
-  miss : Cell → Query → Track
-  -- reported position, velocity, minute; kept position
-  keeps : ℤ → ℤ → ℤ → ℤ → Track
-  -- two rows, the stamp, and the row worked out from them; a minute, and the edges then
-  spans : Row → Row → ℤ → Row → ℤ → ℤ → ℤ → Track
+-- ---- a stretch of time: `first to last`, both counted
+infix 70 _to_
+pub data Stretch : Type 0 where
+  _to_ : Instant → Instant → Stretch
 
-abbrev pub Holds : Track → Type 0
-Holds (hit c k) = CellMeets c k
-Holds (miss c k) = CellMeets c k → ⊥
+-- multiplied through
+abbrev pub NotAfter : Instant → Instant → Type 0
+NotAfter s t = (s .p *ℤ t .q) ≤ℤ (t .p *ℤ s .q)
+
+abbrev pub During : Stretch → Instant → Type 0
+During (first to last) t = NotAfter first t × NotAfter t last
+
+-- a fact of instants holds at every instant of the stretch, and at no other
+abbrev pub Throughout : Stretch → (Instant → Type 0) → Type 0
+Throughout s Fact = (t : Instant) → Fact t ↔ During s t
+
+-- ---- what is said of a track
+pub data Claim : Type 0 where
+  -- a cell that meets a query, and one that does not
+  meets : Cell → Query → Claim
+  misses : Cell → Query → Claim
+  -- one that meets it throughout a stretch and at no other instant
+  meetsFrom : Cell → Query → Stretch → Claim
+  -- one that does not: x is inside throughout one stretch of the query and y throughout another
+  missesApart : Cell → Query → Stretch → Stretch → Claim
+  -- reported position, velocity, minute; kept position
+  keeps : ℤ → ℤ → ℤ → ℤ → Claim
+  -- two rows, the stamp, and the row worked out from them; a minute, and the edges then
+  spans : Row → Row → ℤ → Row → ℤ → ℤ → ℤ → Claim
+
+-- on one axis the row lies within the query's edges, at an instant of the query
+abbrev pub InsideOn : Query → Edges → Row → Instant → Type 0
+InsideOn k e row t = InQuery k t × Touches k e row t
+
+abbrev pub Holds : Claim → Type 0
+Holds (meets c k) = CellMeets c k
+Holds (misses c k) = CellMeets c k → ⊥
+Holds (meetsFrom c k s) = CellMeets c k × Throughout s (MeetsAt (cellBounds c) (c .expiry .at) k)
+Holds (missesApart c k x y) =
+    (CellMeets c k → ⊥) ×
+    Throughout x (InsideOn k (k .x) (getD (cellBounds c) 0 [])) ×
+    Throughout y (InsideOn k (k .y) (getD (cellBounds c) 1 []))
 Holds (keeps x v t z) = kept x v t ≡ z
 Holds (spans r s stamp h minute lo hi) = (hull stamp r (s ∷ []) ≡ h) × (lowAt minute h ≡ lo) × (highAt minute h ≡ hi)
+
+-- ---- the table
+-- `P n ..`: the track with the number n
+pub data Track : Type 0 where
+  P : ℕ → Claim → Track
+
+abbrev instant : (p q : ℤ) → T (leZ (pos 1) q) → Instant
+instant p q positive = record { p = p; q = q; q-positive = leZ-yes positive }
+
+abbrev minute : ℤ → Instant
+minute m = instant m (pos 1) tt
+
+abbrev third : Instant
+third = instant (pos 1) (pos 3) tt
+
+abbrev oneAndAHalf : Instant
+oneAndAHalf = instant (pos 3) (pos 2) tt
 
 -- a cell reported at (x, y) with velocity (vx, vy) at minute 0, until minute 40
 abbrev from : ℤ → ℤ → ℤ → ℤ → Cell
@@ -46,79 +92,19 @@ point start end x y = windowFrom start end x x y y
 abbrev moving : Query
 moving = queryFrom (pos 0) (pos 10) (pos 0) (pos 2) (pos 0) (pos 0) (pos 20) (pos 22) (pos 0) (pos 0)
 
-pub tracks : List Track
+unfoldable pub tracks : List Track
 tracks =
-    hit (from (pos 0) (pos 0) (pos 3) (pos 3)) (point (pos 0) (pos 1) (pos 1) (pos 1)) ∷
-    miss (from (pos 0) (pos 0) (pos 1) (pos 2)) (windowFrom (pos 0) (pos 5) (pos 2) (pos 3) (pos 2) (pos 3)) ∷
-    hit cell7 (point (pos 40) (pos 40) (pos 250) (pos 110)) ∷
-    miss cell7 (point (pos 41) (pos 41) (pos 255) (pos 107)) ∷
-    hit (from (pos 1) (pos 0) (pos 2) (pos 0)) moving ∷
-    miss (from (pos 3) (pos 0) (pos 2) (pos 0)) moving ∷
-    hit (from (pos 3) (pos 0) (pos 1) (pos 0)) moving ∷
-    keeps (pos 100000) (negℤ (pos 512)) (pos 1440) (pos 837280) ∷
-    spans (pos 0 ∷ pos 0 ∷ pos 1 ∷ pos 1 ∷ []) (pos 10 ∷ pos 10 ∷ negℤ (pos 1) ∷ negℤ (pos 1) ∷ []) (pos 0) (pos 0 ∷ pos 10 ∷ negℤ (pos 1) ∷ pos 1 ∷ []) (pos 3) (negℤ (pos 3)) (pos 13) ∷
+    P 1 (meetsFrom (from (pos 0) (pos 0) (pos 3) (pos 3)) (point (pos 0) (pos 1) (pos 1) (pos 1)) (third to third)) ∷
+    P 2 (missesApart (from (pos 0) (pos 0) (pos 1) (pos 2)) (windowFrom (pos 0) (pos 5) (pos 2) (pos 3) (pos 2) (pos 3)) (minute (pos 2) to minute (pos 3)) (minute (pos 1) to oneAndAHalf)) ∷
+    P 3 (meets cell7 (point (pos 40) (pos 40) (pos 250) (pos 110))) ∷
+    P 4 (misses cell7 (point (pos 41) (pos 41) (pos 255) (pos 107))) ∷
+    P 5 (meets (from (pos 1) (pos 0) (pos 2) (pos 0)) moving) ∷
+    P 6 (misses (from (pos 3) (pos 0) (pos 2) (pos 0)) moving) ∷
+    P 7 (meetsFrom (from (pos 3) (pos 0) (pos 1) (pos 0)) moving (minute (pos 1) to minute (pos 3))) ∷
+    P 8 (keeps (pos 100000) (negℤ (pos 512)) (pos 1440) (pos 837280)) ∷
+    P 9 (spans (pos 0 ∷ pos 0 ∷ pos 1 ∷ pos 1 ∷ []) (pos 10 ∷ pos 10 ∷ negℤ (pos 1) ∷ negℤ (pos 1) ∷ []) (pos 0) (pos 0 ∷ pos 10 ∷ negℤ (pos 1) ∷ pos 1 ∷ []) (pos 3) (negℤ (pos 3)) (pos 13)) ∷
     []
 
 abbrev pub AllHold : List Track → Type 0
 AllHold [] = Unit {0}
-AllHold (t ∷ ts) = Holds t × AllHold ts
-
--- ---- by a test that is computed over the table
-abbrev both : Bool → Bool → Bool
-both a b = cond a b false
-
-both-split : (a b : Bool) → T (both a b) → T a × T b
-both-split true b t = (tt, t)
-both-split false b t = absurd t
-
-abbrev same : ℤ → ℤ → Bool
-same a b = both (leZ a b) (leZ b a)
-
-same-eq : (a b : ℤ) → T (same a b) → a ≡ b
-same-eq a b t = let h = both-split (leZ a b) (leZ b a) t in ≤ℤ-antisym a b (leZ-yes (h .0)) (leZ-yes (h .1))
-
-abbrev sameRow : Row → Row → Bool
-sameRow [] [] = true
-sameRow [] (b ∷ bs) = false
-sameRow (a ∷ as′) [] = false
-sameRow (a ∷ as′) (b ∷ bs) = both (same a b) (sameRow as′ bs)
-
-same-row-eq : (r s : Row) → T (sameRow r s) → r ≡ s
-same-row-eq [] [] t = refl
-same-row-eq [] (b ∷ bs) t = absurd t
-same-row-eq (a ∷ as′) [] t = absurd t
-same-row-eq (a ∷ as′) (b ∷ bs) t =
-    let h = both-split (same a b) (sameRow as′ bs) t in
-    ap₂ (λ (z : ℤ) (zs : Row). z ∷ zs) (same-eq a b (h .0)) (same-row-eq as′ bs (h .1))
-
-abbrev test : Track → Bool
-test (hit c k) = meetsIn (cellBounds c) (c .expiry .at) k
-test (miss c k) = not (meetsIn (cellBounds c) (c .expiry .at) k)
-test (keeps x v t z) = same (kept x v t) z
-test (spans r s stamp h minute lo hi) =
-    both (sameRow (hull stamp r (s ∷ [])) h) (both (same (lowAt minute h) lo) (same (highAt minute h) hi))
-
-missed : (b : Bool) (P : Type 0) → Tells b P → T (not b) → P → ⊥
-missed true P h t p = t
-missed false P h t p = h .seen p
-
-test-holds : (t : Track) → T (test t) → Holds t
-test-holds (hit c k) h = meets-law (cellBounds c) (c .expiry .at) k .sure h
-test-holds (miss c k) h = missed (meetsIn (cellBounds c) (c .expiry .at) k) (CellMeets c k) (meets-law (cellBounds c) (c .expiry .at) k) h
-test-holds (keeps x v t z) h = same-eq (kept x v t) z h
-test-holds (spans r s stamp h minute lo hi) t =
-    let f = both-split (sameRow (hull stamp r (s ∷ [])) h) (both (same (lowAt minute h) lo) (same (highAt minute h) hi)) t in
-    let g = both-split (same (lowAt minute h) lo) (same (highAt minute h) hi) (f .1) in
-    (same-row-eq (hull stamp r (s ∷ [])) h (f .0), same-eq (lowAt minute h) lo (g .0), same-eq (highAt minute h) hi (g .1))
-
-abbrev allTests : List Track → Bool
-allTests [] = true
-allTests (t ∷ ts) = both (test t) (allTests ts)
-
-all-hold : (ts : List Track) → T (allTests ts) → AllHold ts
-all-hold [] t = tt
-all-hold (t ∷ ts) h = let f = both-split (test t) (allTests ts) h in (test-holds t (f .0), all-hold ts (f .1))
-
-pub tracks-hold : AllHold tracks
-unfolding tracks meetsIn meetingOf alongTo cutTo livesIn span picked lesser greater
-tracks-hold = all-hold tracks tt
+AllHold (P n claim ∷ ts) = Holds claim × AllHold ts

@@ -4,7 +4,7 @@ ghost use mathlib.Core.Path.{_≡_};
 ghost use Rattle.whole.specs.Within.{Within};
 ghost use Rattle.track.specs.Numbers.{IsPosition, IsVelocity, IsEdge};
 ghost use Rattle.track.specs.Query.{EdgesInRange};
-ghost use Rattle.track.specs.Cut.{cutTo, livesIn};
+ghost use Rattle.track.specs.Cut.{startsAt, endsAt, cutTo, livesIn};
 ghost use Rattle.track.specs.Decides.{gapLine, turnedLine, alongTo};
 ghost use Rattle.track.specs.Small.{Small, SmallLine, RowInRange};
 
@@ -49,6 +49,30 @@ impl Line {
 }
 
 impl Interval {
+    // The instants of the interval from n/d on, which is not before its low end.
+    fn from(self, n: i64, d: i64) -> Interval
+        ensures { λ r. ⌜ r ≡ startsAt self n d ⌝ }
+    {
+        Interval {
+            lo: n,
+            lod: d,
+            hi: self.hi,
+            hid: self.hid,
+        }
+    }
+
+    // The instants of the interval until n/d, which is not after its high end.
+    fn until(self, n: i64, d: i64) -> Interval
+        ensures { λ r. ⌜ r ≡ endsAt self n d ⌝ }
+    {
+        Interval {
+            lo: self.lo,
+            lod: self.lod,
+            hi: n,
+            hid: d,
+        }
+    }
+
     // The part of the interval in which the line is not negative.
     fn cut(self, line: Line) -> Interval
         requires { ⌜ (Small self) × (SmallLine line) ⌝ }
@@ -58,23 +82,13 @@ impl Interval {
         let b = line.b;
         if 0 < b {
             if self.lo * b + a * self.lod < 0 {
-                Interval {
-                    lo: -a,
-                    lod: b,
-                    hi: self.hi,
-                    hid: self.hid,
-                }
+                self.from(-a, b)
             } else {
                 self
             }
         } else if b < 0 {
             if a * self.hid + b * self.hi < 0 {
-                Interval {
-                    lo: self.lo,
-                    lod: self.lod,
-                    hi: a,
-                    hid: -b,
-                }
+                self.until(a, -b)
             } else {
                 self
             }

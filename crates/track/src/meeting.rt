@@ -10,7 +10,6 @@ ghost use Rattle.whole.specs.Tells.{Tells};
 ghost use Rattle.track.specs.Numbers.{IsMinute};
 ghost use Rattle.track.specs.Query.{QueryInRange};
 ghost use Rattle.track.specs.Meets.{span, Meets, CellMeets, cellBounds};
-ghost use Rattle.track.specs.Decides.{meetingOf};
 ghost use Rattle.track.specs.Small.{BoundsInRange, CellInRange};
 ghost use Rattle.track.specs.Refusals.{Gives};
 ghost use Rattle.track.specs.Answer.{answersTo};
@@ -25,10 +24,10 @@ fn span(k: Query) -> i64
     if minutes < 1 { 1 } else { minutes }
 }
 
-// The instants of the query at which the bounds touch its rectangle; the low end is the earliest.
-pub fn meeting(b: [[i32; 4]; 2], k: Query) -> Interval
-    requires { ⌜ (BoundsInRange b) × (QueryInRange k) ⌝ }
-    ensures { λ r. ⌜ r ≡ meetingOf b k ⌝ }
+// Whether what has these bounds and lives until `expiry` meets the query: y is tried at the instants at which x is inside.
+pub fn meets(b: [[i32; 4]; 2], expiry: i32, k: Query) -> bool
+    requires { ⌜ (BoundsInRange b) × (IsMinute expiry) × (QueryInRange k) ⌝ }
+    ensures { λ r. ⌜ Tells r (Meets b expiry k) ⌝ }
 {
     let start = wide(k.start.at);
     let whole = Interval {
@@ -39,15 +38,11 @@ pub fn meeting(b: [[i32; 4]; 2], k: Query) -> Interval
     };
     let minutes = span(k);
     let on_x = whole.along(k.x, b[0], start, minutes);
-    on_x.along(k.y, b[1], start, minutes)
-}
-
-// Whether what has these bounds and lives until `expiry` meets the query.
-pub fn meets(b: [[i32; 4]; 2], expiry: i32, k: Query) -> bool
-    requires { ⌜ (BoundsInRange b) × (IsMinute expiry) × (QueryInRange k) ⌝ }
-    ensures { λ r. ⌜ Tells r (Meets b expiry k) ⌝ }
-{
-    meeting(b, k).lives(expiry)
+    if !on_x.lives(expiry) {
+        return false;
+    }
+    let on_both = on_x.along(k.y, b[1], start, minutes);
+    on_both.lives(expiry)
 }
 
 // A cell is a point: on each axis one edge and one velocity.

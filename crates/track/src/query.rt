@@ -67,6 +67,13 @@ fn crossed(e: Edges) -> bool
     e.high2 < e.low2
 }
 
+// Whether a window with these minutes goes backward.
+fn ends_before_start(start: i32, end: i32) -> bool
+    ensures { λ r. ⌜ Tells r (end <ℤ start) ⌝ }
+{
+    end < start
+}
+
 // The query, where nothing speaks against it when the clock stands at `clock`.
 fn judged(clock: i32, backward: bool, k: Query) -> Asked
     ensures { λ r. ⌜ Asks clock (T backward) k r ⌝ }
@@ -120,7 +127,7 @@ impl Query {
             x,
             y,
         };
-        judged(clock, end < start, k)
+        judged(clock, ends_before_start(start, end), k)
     }
 
     // A moving query asked when the clock stands at `clock`.

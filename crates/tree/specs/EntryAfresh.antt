@@ -46,7 +46,7 @@ refresh-changes {w} {i} {k} c e whole = put-changes w i (c .in-table) k e (refre
 module _ (N : Nodes) (leaf : Bool) (minute : ℤ) (child : ℕ) where
   pub child-above : childOf (entryAbove N leaf minute child) ≡ child
   unfolding entryAbove natOf
-  child-above = ap natOf (child-inner child _ _ minute)
+  child-above = ap natOf (child-inner child _ _ _)
 
 -- it looks at the entries of the child only
 pub above-same : (N N′ : Nodes) (leaf : Bool) (minute : ℤ) (child : ℕ) → N′ child ≡ N child → entryAbove N′ leaf minute child ≡ entryAbove N leaf minute child
@@ -67,12 +67,10 @@ is-node-at {cells} {n} low = record { from = record { le = le→leb 0 n (omega a
 pub above-afresh : (N : Nodes) (cells : ℕ) (clock : ℤ) (h child : ℕ) → IsMinute clock → child < nodesFor cells → 3 ≤ length (N child) → Afresh N cells clock h (entryAbove N (isLeaf h) clock child)
 unfolding entryAbove
 above-afresh N cells clock h child is low filled =
-    let b = workedOut (isLeaf h) clock (N child) in
-    let until = latestOf (isLeaf h) (N child) in
     record {
-      child-in = rw (child-inner child b until clock) (is-node-at low);
+      stamped = stamp-inner child _ _ clock;
+      stamp-in = rw stamp-inner is;
+      child-in = rw child-inner (is-node-at low);
       filled = rw (child-above N (isLeaf h) clock child) filled;
       worked-out = rw (child-above N (isLeaf h) clock child) (inner-worked-out (isLeaf h) child clock (N child));
-      stamp-in = rw (stamp-inner child b until clock) is;
-      stamped = stamp-inner child b until clock;
     }

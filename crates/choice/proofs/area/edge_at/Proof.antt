@@ -40,7 +40,9 @@ add-result c =
     simp (reads, read64 tt (run-in s)) (fits tt (add-in (any-in (s .fits .at)) (run-in s)))
 
 returns : tie.Need-returns
-returns c = search needs
+returns c =
+    let s = c .before .before .before in
+    simp (reads, read64 tt (run-in s), read64 tt (add-in (any-in (s .fits .at)) (run-in s)))
 
 pub edge-at-spec : {M : Type 1} → statement M
 edge-at-spec =

@@ -1,8 +1,8 @@
-use mathlib.Core.Path.{_≡_, _∙_}
+use mathlib.Core.Path.{_≡_, ap, _∙_}
 use mir.Syntax.{w32}
 use mir.Val.{toZ, ofZ}
 use native.Mathlib.Omega.{arith}
-use lib.IntN.{pos}
+use lib.IntN.{ℤ, pos}
 use lib.Signed.{_≤ℤ_}
 use Rattle.whole.specs.Order.{ltZ-true, ltZ-false}
 use Rattle.whole.specs.Tells.{passed-not, failed-not}
@@ -36,7 +36,9 @@ later : (c : tie.Else3) → clock (c .before .before .before .before .before .be
 later c = ltZ-false (simp (back (c .before .before .before .before .before .before .before .before .fits .minute), clock-back (c .before)) at (c .if3 .left))
 
 all-is : (c : tie.After-staying-in) → let a = c .before .before .before .before .before .before .before .before .before .before .args in c .staying-in .result ≡ manyStay (a .t .now) (a .minute) (pos 0)
-all-is c = simp (back (c .before .before .before .before .before .before .before .before .before .before .fits .minute)) at (c .staying-in .ensures)
+all-is c =
+    let s = c .before .before .before .before .before .before .before .before .before .before in
+    c .staying-in .ensures ∙ ap (λ (m : ℤ). manyStay (s .args .t .now) m (pos 0)) (back (s .fits .minute))
 
 beside-is : (c : tie.After-staying-in2) → let a = c .before .before .before .before .before .before .before .before .before .before .before .before .args in c .staying-in2 .result ≡ manyStay (a .t .now) (a .minute) (a .id)
 beside-is c = simp (back (c .before .before .before .before .before .before .before .before .before .before .before .before .fits .minute), back (c .before .before .before .before .before .before .before .before .before .before .before .before .fits .id)) at (c .staying-in2 .ensures)

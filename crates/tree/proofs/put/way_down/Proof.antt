@@ -26,7 +26,7 @@ best-child-requires c κs =
 chosen : (c : tie.After-best-child) → let a = c .before .before .before .args in c .best-child .result < length (entriesAt (a .t .now) (a .i))
 chosen c =
     let a = c .before .before .before .args in
-    omega (arith, c .best-child .ensures, ap countOf (c .before .node-at .ensures), length-at (a .t .now) (a .i))
+    omega (arith, c .best-child .ensures .in-node, ap countOf (c .before .node-at .ensures), length-at (a .t .now) (a .i))
 
 child-is : (c : tie.After-child-at) → let a = c .before .before .before .before .before .args in c .child-at .result ≡ childAt (entriesAt (a .t .now)) (a .i) (c .before .before .best-child .result)
 child-is c = c .child-at .ensures
@@ -85,7 +85,7 @@ same-length-2 c = search needs
 returns-2 : tie.Need-returns-2
 returns-2 c =
     way-parted (c .before .before .before .before .before .before .before .before .before .before .before .before .before .before .before .before .pre) (chosen (c .before .before .before .before .before .before .before .before .before .before .before .before .before)) (parted-is (c .before .before .before .before .before .before))
-    (⊎-elim (λ e. inl e) (λ e. inr (e ∙ ap (λ n. n - 1) (c .before .before .before .count-at2 .ensures))) (c .better-child .ensures))
+    (⊎-elim (λ e. inl e) (λ e. inr (e ∙ ap (λ n. n - 1) (c .before .before .before .count-at2 .ensures))) (c .better-child .ensures .one-of))
 
 pub way-down-spec : {M : Type 1} → statement M
 way-down-spec =

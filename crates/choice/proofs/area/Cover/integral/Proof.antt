@@ -4,12 +4,16 @@ use lib.IntN.{ℤ, pos, _+ℤ_, _*ℤ_}
 use mir.Syntax.{w64}
 use mir.Val.{toZ, ofZ}
 use borrow.Author.Needs.{needs}
-use Rattle.whole.specs.Within.{Within, widen, fits, read64, lit-in, add-in, mul-in}
+use Rattle.whole.specs.Within.{Within, fits, read64, lit-in, add-in, mul-in}
+use Rattle.choice.specs.AreaLaws.{width-in, growth-in, integral-is}
 use Rattle.choice.proofs.area.Cover.integral.Statement.{statement}
 use Rattle.choice.proofs.area.Cover.integral.Tie as tie
 
 -- the two widths and the two growths, and the three parts of the sum
 module _ (c : tie.After-growth2) where
+  abbrev s : tie.Start
+  s = c .before .before .before .before
+
   abbrev a : ℤ
   a = c .before .before .before .width .result
 
@@ -23,16 +27,16 @@ module _ (c : tie.After-growth2) where
   e = c .before .width2 .result
 
   a-in : Within (2 ^ 23) a
-  a-in = c .before .before .before .width .ensures
+  a-in = rw (c .before .before .before .width .ensures) (width-in (s .args .self .x))
 
   b-in : Within (2 ^ 10) b
-  b-in = c .before .before .growth .ensures
+  b-in = rw (c .before .before .growth .ensures) (growth-in (s .args .self .x))
 
   e-in : Within (2 ^ 23) e
-  e-in = c .before .width2 .ensures
+  e-in = rw (c .before .width2 .ensures) (width-in (s .args .self .y))
 
   d-in : Within (2 ^ 10) d
-  d-in = c .growth2 .ensures
+  d-in = rw (c .growth2 .ensures) (growth-in (s .args .self .y))
 
   ae-in : Within (2 ^ 46) (a *ℤ e)
   ae-in = mul-in a-in e-in
@@ -170,7 +174,7 @@ add-result-2 : tie.Need-add-result-2
 add-result-2 c = simp reads (fits tt (all-in c))
 
 returns : tie.Need-returns
-returns c = simp reads (widen tt (all-in c))
+returns c = simp reads (integral-is (s c .args .self) (c .before .before .before .width .ensures) (c .before .before .growth .ensures) (c .before .width2 .ensures) (c .growth2 .ensures))
 
 pub integral-spec : {M : Type 1} → statement M
 integral-spec =

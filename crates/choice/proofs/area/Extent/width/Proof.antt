@@ -1,7 +1,29 @@
+use mathlib.Core.Path.{_≡_}
+use lib.IntN.{ℤ}
+use mir.Syntax.{w64}
+use mir.Val.{toZ, ofZ}
 use borrow.Author.Needs.{needs}
-use Rattle.whole.specs.Within.{widen, fits, read64, lit-in, add-in, sub-in}
+use Rattle.whole.specs.Within.{back, fits, read64, sub-in, add-in, lit-in}
+use Rattle.choice.specs.Area.{heldTo, farthest}
+use Rattle.choice.specs.AreaLaws.{held-in}
+use Rattle.choice.proofs.Held.{held-read}
 use Rattle.choice.proofs.area.Extent.width.Statement.{statement}
 use Rattle.choice.proofs.area.Extent.width.Tie as tie
+
+module _ (c : tie.After-held2) where
+  abbrev high : ℤ
+  high = c .before .before .before .before .args .self .high
+
+  abbrev low : ℤ
+  low = c .before .before .before .before .args .self .low
+
+  high-is : toZ w64 (ofZ w64 (c .before .before .held .result)) ≡ heldTo farthest high
+  high-is = held-read 3049120 high tt (rw (back (record { sfits = c .before .before .before .before .good .0 .1 .1 .1 .0 .1 })) at (c .before .before .held .ensures))
+
+  low-is : toZ w64 (ofZ w64 (c .held2 .result)) ≡ heldTo farthest low
+  low-is = held-read 3049120 low tt (rw (back (record { sfits = c .before .before .before .before .good .0 .1 .1 .0 .1 })) at (c .held2 .ensures))
+
+ruleset reads = (high-is, low-is)
 
 held-requires : tie.Need-held-requires
 held-requires c κs = search needs
@@ -10,25 +32,17 @@ held-requires-2 : tie.Need-held-requires-2
 held-requires-2 c κs = search needs
 
 sub-result : tie.Need-sub-result
-sub-result c =
-    let high = c .before .before .held .ensures in
-    let low = c .held2 .ensures in
-    simp (read64 tt high, read64 tt low) (fits tt (sub-in high low))
+sub-result c = simp reads (fits tt (sub-in (held-in 3049120 (high c)) (held-in 3049120 (low c))))
 
 add-result : tie.Need-add-result
 add-result c =
-    let high = c .before .before .held .ensures in
-    let low = c .held2 .ensures in
-    let gap = sub-in high low in
-    simp (read64 tt high, read64 tt low, read64 tt gap) (fits tt (add-in gap (lit-in 1 {bound = 1} tt)))
+    let gap = sub-in (held-in 3049120 (high c)) (held-in 3049120 (low c)) in
+    simp (reads, read64 tt gap) (fits tt (add-in gap (lit-in 1 {bound = 1} tt)))
 
 returns : tie.Need-returns
 returns c =
-    let high = c .before .before .held .ensures in
-    let low = c .held2 .ensures in
-    let gap = sub-in high low in
-    let wide = add-in gap (lit-in 1 {bound = 1} tt) in
-    simp (read64 tt high, read64 tt low, read64 tt gap, read64 tt wide) (widen tt wide)
+    let gap = sub-in (held-in 3049120 (high c)) (held-in 3049120 (low c)) in
+    simp (reads, read64 tt gap, read64 tt (add-in gap (lit-in 1 {bound = 1} tt)))
 
 pub width-spec : {M : Type 1} → statement M
 width-spec = tie.close (tie.spec held-requires held-requires-2 sub-result add-result returns)

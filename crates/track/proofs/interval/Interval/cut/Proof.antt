@@ -1,10 +1,11 @@
-use mathlib.Core.Path.{_≡_}
+use mathlib.Core.Path.{_≡_, _∙_}
 use mathlib.Core.Bool.{true, false}
 use Prim.Native.Nat.{_^_}
 use lib.IntN.{pos, negℤ, _+ℤ_, _-ℤ_, _*ℤ_}
 use lib.Signed.{ltZ}
 use mir.Syntax.{w64}
 use mir.Val.{toZ, ofZ}
+use borrow.Author.Needs.{needs}
 use Rattle.whole.specs.Within.{Within, mul-in, add-in, sub-in, lit-in, fits, read64, neg-read64}
 use Rattle.track.specs.Cut.{rising-later, rising-same, falling-earlier, falling-same, level-never, level-same}
 use Rattle.track.proofs.interval.Interval.cut.Statement.{statement}
@@ -77,8 +78,11 @@ mul-if2-2 c = simp reads (fits tt (a·lod (c .before .before .before .before .be
 add-if2 : tie.Need-add-if2
 add-if2 c = let s = c .before .before .before .before .before .before .before in simp reads (fits tt (add-in (lo·b s) (a·lod s)))
 
-sub-t12 : tie.Need-sub-t12
-sub-t12 c = let s = c .before .before .before .before .before .before .before .before in simp reads (fits tt (sub-in (lit-in 0 {bound = 0} tt) (s .pre .1 .a-in)))
+sub-from : tie.Need-sub-from
+sub-from c = let s = c .before .before .before .before .before .before .before .before in simp reads (fits tt (sub-in (lit-in 0 {bound = 0} tt) (s .pre .1 .a-in)))
+
+from-requires : tie.Need-from-requires
+from-requires c κs = search needs
 
 mul-if4 : tie.Need-mul-if4
 mul-if4 c = simp reads (fits tt (a·hid (c .before .before .before .before .before .before)))
@@ -89,8 +93,11 @@ mul-if4-2 c = simp reads (fits tt (b·hi (c .before .before .before .before .bef
 add-if4 : tie.Need-add-if4
 add-if4 c = let s = c .before .before .before .before .before .before .before .before in simp reads (fits tt (add-in (a·hid s) (b·hi s)))
 
-sub-t20 : tie.Need-sub-t20
-sub-t20 c = let s = c .before .before .before .before .before .before .before .before .before in simp reads (fits tt (sub-in (lit-in 0 {bound = 0} tt) (s .pre .1 .b-in)))
+sub-until : tie.Need-sub-until
+sub-until c = let s = c .before .before .before .before .before .before .before .before .before in simp reads (fits tt (sub-in (lit-in 0 {bound = 0} tt) (s .pre .1 .b-in)))
+
+until-requires : tie.Need-until-requires
+until-requires c κs = search needs
 
 -- which way b goes
 up : (c : tie.Then1) → ltZ (pos 0) (c .before .before .before .args .line .b) ≡ true
@@ -106,15 +113,18 @@ not-down : (c : tie.Else3) → ltZ (c .before .before .before .before .args .lin
 not-down c = simp reads at (c .if3 .left)
 
 returns : tie.Need-returns
-returns c = simp reads (rising-later _ _ _ (up (c .before .before .before .before .before .before)) (simp reads at (c .before .if2 .taken)))
+returns c =
+    let d = c .before in
+    simp reads at (c .from .ensures) ∙ rising-later _ _ _ (up (d .before .before .before .before .before)) (simp reads at (d .if2 .taken))
 
 returns-2 : tie.Need-returns-2
 returns-2 c = rising-same _ _ _ (up (c .before .before .before .before .before)) (simp reads at (c .if2 .left))
 
 returns-3 : tie.Need-returns-3
 returns-3 c =
-    let d = c .before .before .before .before .before .before in
-    simp reads (falling-earlier _ _ _ (not-up (d .before)) (down d) (simp reads at (c .before .if4 .taken)))
+    let e = c .before in
+    let d = e .before .before .before .before .before in
+    simp reads at (c .until .ensures) ∙ falling-earlier _ _ _ (not-up (d .before)) (down d) (simp reads at (e .if4 .taken))
 
 returns-4 : tie.Need-returns-4
 returns-4 c =
@@ -134,11 +144,13 @@ cut-spec =
     mul-if2
     mul-if2-2
     add-if2
-    sub-t12
+    sub-from
+    from-requires
     mul-if4
     mul-if4-2
     add-if4
-    sub-t20
+    sub-until
+    until-requires
     returns
     returns-2
     returns-3

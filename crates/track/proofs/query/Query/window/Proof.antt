@@ -1,5 +1,4 @@
 use mathlib.Core.Path.{_≡_}
-use lib.Signed.{ltZ-yes}
 use mir.Syntax.{w32}
 use mir.Val.{toZ, ofZ}
 use borrow.Author.Needs.{needs}
@@ -32,11 +31,16 @@ module _ (s : tie.Start) where
 
 ruleset reads = (r-clock, r-start, r-end, r-xlow, r-xhigh, r-ylow, r-yhigh)
 
+ends-before-start-requires : tie.Need-ends-before-start-requires
+ends-before-start-requires c κs = search needs
+
 judged-requires : tie.Need-judged-requires
 judged-requires c κs = search needs
 
 returns : tie.Need-returns
-returns c = asks-as (λ t. ltZ-yes t) (λ e. e .lt) (simp reads at (c .judged .ensures))
+returns c =
+    let backward = simp reads at (c .before .ends-before-start .ensures) in
+    asks-as (backward .sure) (backward .seen) (simp reads at (c .judged .ensures))
 
 pub window-spec : {M : Type 1} → statement M
-window-spec = tie.close (tie.spec judged-requires returns)
+window-spec = tie.close (tie.spec ends-before-start-requires judged-requires returns)
