@@ -1,6 +1,6 @@
 // The calls that hand out what a table holds: cell by cell, or as a sheet.
+use leafing::opening_number;
 use leafing::search::Next;
-use leafing::search::opening;
 use leafing::step_from;
 use reading::read_sheet;
 use track::cell::Cell;
@@ -53,7 +53,7 @@ pub extern "C" fn bradawlet_read(table: &mut [i32], cells: i32, bytes: &[u8]) ->
 pub extern "C" fn bradawlet_open(table: &[i32]) -> i32
     ensures { λ r. ⌜ Gives (openingReasons (now (table .entry))) r ⌝ }
 {
-    opening(table)
+    opening_number(table)
 }
 
 // The cell that was found, all zeros where there is none.
