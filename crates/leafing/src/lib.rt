@@ -8,6 +8,7 @@ ghost use Rattle.leafing.specs.NextLive.{Steps, openingReasons};
 ghost use Rattle.leafing.specs.Leafing.{Opens, Moves};
 
 pub mod search;
+pub mod through;
 
 // Holds on to a lent table from its opening, with the identifier of the last cell given. The number is the opening's: 1 where the table is not sound, else 0.
 pub struct Leafing<'a> {
