@@ -3,6 +3,7 @@ use leafing::opening_number;
 use leafing::search::Next;
 use leafing::step_from;
 use reading::read_sheet;
+use sheet::record::cell_numbers;
 use track::cell::Cell;
 use track::minute::Minute;
 use words::number;
@@ -89,7 +90,6 @@ pub extern "C" fn bradawlet_next(table: &[i32], last: i32, numbers: &mut [i32; 6
     ensures { λ r. ⌜ NextGives (now (table .entry)) last r (now (numbers .exit)) ⌝ }
 {
     let next = step_from(table, last);
-    let c = next_cell(next);
-    *numbers = [c.id, c.x, c.vx, c.y, c.vy, c.expiry.at];
+    *numbers = cell_numbers(next_cell(next));
     is_given(next)
 }

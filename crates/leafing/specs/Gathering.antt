@@ -38,15 +38,19 @@ abbrev pub listAfter : Next → ℕ → List ℤ → List ℤ
 listAfter (One c) n list = put list (recordNumbers * n) recordNumbers (cellNumbers c)
 listAfter None n list = list
 
--- ---- what a leafing from its opening to its end comes to
+-- ---- these cells stand in the first places of the list, which made it t
+pub record Stand (list t : List ℤ) (cells : List Cell) : Type 0 where
+  pub is : t ≡ put list 0 (recordNumbers * length cells) (numbersOf cells)
+  pub long : length t ≡ length list
+
+-- what a leafing from its opening to its end comes to
 pub record Gathers (w list : List ℤ) (r : Listed) (list′ : List ℤ) : Type 0 where
   pub cells : List Cell
   pub leafed : Leafed w (pos 0) cells
   pub number-is : Gives (openingReasons w) (r .number)
   pub count : r .cells ≡ length cells
   pub few : length cells ≤ greatestCapacity
-  pub is : list′ ≡ put list 0 (recordNumbers * length cells) (numbersOf cells)
-  pub long : length list′ ≡ length list
+  pub stand : Stand list list′ cells
 
 -- ---- numbers of cells, one more at the end
 pub length-numbersOf : (cells : List Cell) → length (numbersOf cells) ≡ recordNumbers * length cells
@@ -59,18 +63,13 @@ unfolding numbersOf
 numbers-append [] c = append-nil (cellNumbers c)
 numbers-append (d ∷ cells) c = rw (numbers-append cells c) (sym (append-assoc (cellNumbers d) (numbersOf cells) (cellNumbers c)))
 
--- these cells stand in the first places of the list, which made it t
-pub record Put (list t : List ℤ) (cells : List Cell) : Type 0 where
-  pub is : t ≡ put list 0 (recordNumbers * length cells) (numbersOf cells)
-  pub long : length t ≡ length list
-
-none-put : (list : List ℤ) → Put list list []
+none-stand : (list : List ℤ) → Stand list list []
 unfolding numbersOf
-none-put list = record { is = sym (put-none list 0); long = refl }
+none-stand list = record { is = sym (put-none list 0); long = refl }
 
-one-put : {list t : List ℤ} {cells : List Cell} (c : Cell) → Put list t cells → recordNumbers * (length cells + 1) ≤ length list
-    → Put list (put t (recordNumbers * length cells) recordNumbers (cellNumbers c)) (cells ++ (c ∷ []))
-one-put {list} {t} {cells} c so-far fits = record {
+one-stands : {list t : List ℤ} {cells : List Cell} (c : Cell) → Stand list t cells → recordNumbers * (length cells + 1) ≤ length list
+    → Stand list (put t (recordNumbers * length cells) recordNumbers (cellNumbers c)) (cells ++ (c ∷ []))
+one-stands {list} {t} {cells} c so-far fits = record {
   is = ap (λ (l : List ℤ). put l (recordNumbers * k) recordNumbers (cellNumbers c)) (so-far .is) ∙ beside ∙ as-one;
   long = length-put t (recordNumbers * k) recordNumbers (cellNumbers c) (omega (arith, so-far .long)) refl ∙ so-far .long;
 }
@@ -95,7 +94,7 @@ pub record Going (w list₀ : List ℤ) (more : Bool) (n : ℕ) (last : ℤ) (li
   pub given : List Cell
   pub count : n ≡ length given
   pub few : n ≤ greatestCapacity
-  pub stand : Put list₀ list given
+  pub stand : Stand list₀ list given
   pub goes-on : more ≡ true → (rest : List Cell) → Leafed w last rest → Leafed w (pos 0) (given ++ rest)
   pub ended : more ≡ false → Leafed w (pos 0) given
 
@@ -116,7 +115,7 @@ going-none {list} = record {
   given = [];
   count = refl;
   few = omega arith;
-  stand = none-put list;
+  stand = none-stand list;
   goes-on = λ e rest l. l;
   ended = true-not-false;
 }
@@ -162,7 +161,7 @@ module _ {w list₀ : List ℤ} {n : ℕ} {last : ℤ} {list : List ℤ} (so-far
       given = so-far .given ++ (c ∷ []);
       count = simp length-append (omega (arith, so-far .count));
       few = going-few (One c) p;
-      stand = rw (so-far .count) (one-put c (so-far .stand) (omega (arith, going-few (One c) p, so-far .count)));
+      stand = rw (so-far .count) (one-stands c (so-far .stand) (omega (arith, going-few (One c) p, so-far .count)));
       goes-on = λ e rest l. subst (Leafed w (pos 0)) (sym (append-assoc (so-far .given) (c ∷ []) rest)) (so-far .goes-on refl (c ∷ rest) (one-more p l));
       ended = true-not-false;
     }
@@ -178,6 +177,5 @@ gathered so-far number many = record {
   number-is = number;
   count = many ∙ so-far .count;
   few = omega (arith, so-far .few, so-far .count);
-  is = so-far .stand .is;
-  long = so-far .stand .long;
+  stand = so-far .stand;
 }

@@ -74,14 +74,14 @@ module _ {w all : List ℤ} {found : Listed} {all′ : List ℤ} (g : Gathers w 
   module _ (room : recordNumbers * greatestCapacity ≤ length all) where
     long : length (take (recordNumbers * found .cells) all′) ≡ recordNumbers * found .cells
     unfolding part
-    long = length-part all′ 0 (recordNumbers * found .cells) (omega (arith, g .count, g .few, g .long))
+    long = length-part all′ 0 (recordNumbers * found .cells) (omega (arith, g .count, g .few, g .stand .long))
 
     pub first-long : recordNumbers * found .cells ≡ length (take (recordNumbers * found .cells) all′)
     first-long = sym long
 
     first-are : take (recordNumbers * found .cells) all′ ≡ numbersOf (g .cells)
     unfolding part
-    first-are = rw (g .count, g .is) (part-put all 0 (recordNumbers * length (g .cells)) (numbersOf (g .cells)) (omega (arith, g .few)) (length-numbersOf (g .cells)))
+    first-are = rw (g .count, g .stand .is) (part-put all 0 (recordNumbers * length (g .cells)) (numbersOf (g .cells)) (omega (arith, g .few)) (length-numbersOf (g .cells)))
 
     pub through-listed : {list : List ℤ} → recordNumbers * found .cells ≤ length list → {list′ : List ℤ}
         → list′ ≡ put list 0 (length (take (recordNumbers * found .cells) all′)) (take (recordNumbers * found .cells) all′) → LeafsThrough w list found list′

@@ -2,6 +2,7 @@
 use crate::next;
 use crate::open;
 use crate::search::Next;
+use sheet::record::cell_numbers;
 use table::header::CELLS;
 use track::cell::Cell;
 use track::refusal::Refusal;
@@ -15,7 +16,7 @@ ghost use Rattle.leafing.specs.Through.{recordNumbers, LeafsThrough};
 ghost use Rattle.leafing.specs.Gathering.{isOne, countAfter, listAfter, Gathers};
 
 // How many numbers a cell has: a sheet record's six.
-pub const RECORD: usize = 6;
+pub const RECORD_NUMBERS: usize = 6;
 
 // What leafing through a table comes to: the number, 0 or the refusal's, and how many cells were given.
 pub struct Listed {
@@ -56,8 +57,8 @@ fn put_cell(list: &mut [i32], n: usize, c: Cell)
     requires { ⌜ recordNumbers * (n + 1) ≤ length (now list) ⌝ }
     ensures { λ _. ⌜ now (list .exit) ≡ put (now (list .entry)) (recordNumbers * n) recordNumbers (cellNumbers c) ⌝ }
 {
-    let numbers = [c.id, c.x, c.vx, c.y, c.vy, c.expiry.at];
-    put_numbers(list, RECORD * n, &numbers);
+    let numbers = cell_numbers(c);
+    put_numbers(list, RECORD_NUMBERS * n, &numbers);
 }
 
 // Puts the cell that a step gave behind the n that stand in the list, and tells how many they are then.
@@ -95,9 +96,9 @@ fn gather(t: &[i32], list: &mut [i32]) -> Listed
 pub fn leaf_through(t: &[i32], list: &mut [i32]) -> Listed
     ensures { λ r. ⌜ LeafsThrough (now (t .entry)) (now (list .entry)) r (now (list .exit)) ⌝ }
 {
-    let mut all = [0; RECORD * CELLS];
+    let mut all = [0; RECORD_NUMBERS * CELLS];
     let found = gather(t, &mut all);
-    let n = RECORD * found.cells;
+    let n = RECORD_NUMBERS * found.cells;
     if list.len() < n {
         return Listed {
             number: Refusal::ShortList.number(),

@@ -1,7 +1,7 @@
 // A run of the leafing. Cells are reported out of order, one of them once more; one is dropped, and one is past its expiry. The cells that
 // are left are listed by leafing through the table, and printed.
 use leafing::through::Listed;
-use leafing::through::RECORD;
+use leafing::through::RECORD_NUMBERS;
 use leafing::through::leaf_through;
 use libc::STDOUT_FILENO;
 use table::fresh::fresh;
@@ -63,7 +63,7 @@ fn print_records(list: &[i32]) {
     while j < list.len() {
         print_number(list[j]);
         j += 1;
-        if j % RECORD == 0 {
+        if j % RECORD_NUMBERS == 0 {
             print_text(b"\n");
         } else {
             print_text(b" ");

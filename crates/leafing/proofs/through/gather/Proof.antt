@@ -206,8 +206,8 @@ module _ {M : Type 1} (𝓤 : URA M) (H : Heap 𝓤) (A : Atoms 𝓤) (W : Given
 
     exits : (r : Listed) (u : Val) (zs : List ℤ) → Gathers (now s) ys r zs → ent 𝓤 (⋆ 𝓤 H A (‵ (L.the-row .own r (u ∷ [])) ∷ ‵ (flft κ q) ∷ ‵ Own ∷ ‵ (flft κ′ q′) ∷ ‵ (Out′ zs (length zs)) ∷ [])) (Post u)
     exits r u zs g =
-        qed W (‵ (L.the-row .own r (u ∷ [])) ∷ ‵ (flft κ q) ∷ ‵ Own ∷ ‵ (flft κ′ q′) ∷ ‵ (Out′ zs (length zs)) ∷ []) ∵ rewrite ! 4 (λ (j : ℕ). ‵ (Out′ zs j)) (g .long) refl $
-        suffices ! _ (ends-at 𝓤 H A gather.ended stayed (gather.clauses 𝓤 H A mem run) W (((κ, (κ′, tt)), (q, (q′, tt)), tt, a, at), tt) u r (tt, (zs, tt)) (tt, (g .long, tt))) $ says ! g $
+        qed W (‵ (L.the-row .own r (u ∷ [])) ∷ ‵ (flft κ q) ∷ ‵ Own ∷ ‵ (flft κ′ q′) ∷ ‵ (Out′ zs (length zs)) ∷ []) ∵ rewrite ! 4 (λ (j : ℕ). ‵ (Out′ zs j)) (g .stand .long) refl $
+        suffices ! _ (ends-at 𝓤 H A gather.ended stayed (gather.clauses 𝓤 H A mem run) W (((κ, (κ′, tt)), (q, (q′, tt)), tt, a, at), tt) u r (tt, (zs, tt)) (tt, (g .stand .long, tt))) $ says ! g $
         move ! (1 ∷ 2 ∷ 3 ∷ 4 ∷ []) $ nothing ! $ move ! (3 ∷ 0 ∷ []) $ join ! $ move ! (1 ∷ 0 ∷ []) $ join ! $ frame ! $ nothing ! $ move ! (2 ∷ 0 ∷ []) $ fjoin ! $ move ! (1 ∷ 0 ∷ []) $ fjoin ! $ frame ! $ done !
 
     -- where a turn starts: whether more may come, the count n, the last identifier z and the words zs of the list
