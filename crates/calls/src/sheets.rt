@@ -1,8 +1,9 @@
 // The calls that hand out what a table holds: cell by cell, or as a sheet.
+use leafing::opening_number;
 use leafing::search::Next;
-use leafing::search::opening;
 use leafing::step_from;
 use reading::read_sheet;
+use sheet::record::cell_numbers;
 use track::cell::Cell;
 use track::minute::Minute;
 use words::number;
@@ -53,7 +54,7 @@ pub extern "C" fn bradawlet_read(table: &mut [i32], cells: i32, bytes: &[u8]) ->
 pub extern "C" fn bradawlet_open(table: &[i32]) -> i32
     ensures { λ r. ⌜ Gives (openingReasons (now (table .entry))) r ⌝ }
 {
-    opening(table)
+    opening_number(table)
 }
 
 // The cell that was found, all zeros where there is none.
@@ -89,7 +90,6 @@ pub extern "C" fn bradawlet_next(table: &[i32], last: i32, numbers: &mut [i32; 6
     ensures { λ r. ⌜ NextGives (now (table .entry)) last r (now (numbers .exit)) ⌝ }
 {
     let next = step_from(table, last);
-    let c = next_cell(next);
-    *numbers = [c.id, c.x, c.vx, c.y, c.vy, c.expiry.at];
+    *numbers = cell_numbers(next_cell(next));
     is_given(next)
 }

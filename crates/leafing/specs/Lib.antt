@@ -6,3 +6,6 @@ pub mod Leafed
 pub mod LeafedLaws
 pub mod LiveCellsLaws
 pub mod LeafingLaws
+pub mod Through
+pub mod Gathering
+pub mod ThroughLaws

@@ -3,10 +3,12 @@ use crate::search::Next;
 use crate::search::last_after;
 use crate::search::next_live;
 use crate::search::opening;
-ghost use Rattle.leafing.specs.NextLive.{Steps};
+ghost use Rattle.track.specs.Refusals.{Gives};
+ghost use Rattle.leafing.specs.NextLive.{Steps, openingReasons};
 ghost use Rattle.leafing.specs.Leafing.{Opens, Moves};
 
 pub mod search;
+pub mod through;
 
 // Holds on to a lent table from its opening, with the identifier of the last cell given. The number is the opening's: 1 where the table is not sound, else 0.
 pub struct Leafing<'a> {
@@ -36,7 +38,15 @@ pub fn next<'s, 'a>(l: &'s mut Leafing<'a>) -> Next
     r
 }
 
-// The same for callers with plain numbers: a leafing at the identifier, moved on once.
+// The opening for callers with plain numbers: its number, 0 or the refusal's.
+pub fn opening_number(t: &[i32]) -> i32
+    ensures { λ r. ⌜ Gives (openingReasons (now (t .entry))) r ⌝ }
+{
+    let l = open(t);
+    l.number
+}
+
+// A step for callers with plain numbers: a leafing at the identifier, moved on once.
 pub fn step_from(t: &[i32], last: i32) -> Next
     ensures { λ r. ⌜ Steps (now (t .entry)) last r ⌝ }
 {

@@ -1,13 +1,17 @@
 // The entries that are put in: a leaf's entry, made from its cell, and an inner entry, made from what its child comes to at a minute.
+use crate::worked::latest;
 use crate::worked::worked_row;
 use track::cell::Cell;
 use words::Entry;
 use words::number;
 ghost use mathlib.Core.Path.{_≡_};
 ghost use Prim.Native.Nat.{_<_, _^_};
+ghost use mir.Syntax.{w32};
+ghost use mir.Val.{SFits};
 ghost use Rattle.track.specs.Numbers.{IsMinute, IsEdge};
 ghost use Rattle.track.specs.Small.{RowInRange};
 ghost use Rattle.node.specs.Entry.{entriesOf};
+ghost use Rattle.node.specs.WorkedOut.{latestOf};
 ghost use Rattle.node.specs.Made.{workedOut, innerEntry, leafEntry, InRangeAt};
 
 fn narrow(z: i64) -> i32
@@ -24,11 +28,14 @@ fn narrow_row(r: [i64; 4]) -> [i32; 4]
     [narrow(r[0]), narrow(r[1]), narrow(r[2]), narrow(r[3])]
 }
 
-// The bounds that a node's entries come to at a minute: a row for x and a row for y.
-pub fn work_out(child: &[i32], leaf: bool, minute: i32) -> [[i32; 4]; 2]
+// What a node's entries come to at a minute: their bounds, a row for x and a row for y, and through `until` the greatest expiry.
+// A number behind a reference comes back without its range, so the contract hands it on.
+pub fn work_out(child: &[i32], leaf: bool, minute: i32, until: &mut i32) -> [[i32; 4]; 2]
     requires { ⌜ (IsMinute minute) × (InRangeAt leaf minute (entriesOf (now child))) ⌝ }
     ensures { λ r. ⌜ r ≡ workedOut leaf minute (entriesOf (now (child .entry))) ⌝ }
+    ensures { λ _. ⌜ (now (until .exit) ≡ latestOf leaf (entriesOf (now (child .entry)))) × (SFits w32 (now (until .exit))) ⌝ }
 {
+    *until = latest(child, leaf);
     let x = narrow_row(worked_row(child, leaf, 0, minute));
     let y = narrow_row(worked_row(child, leaf, 1, minute));
     [x, y]

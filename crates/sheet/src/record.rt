@@ -8,7 +8,7 @@ ghost use mathlib.Core.Path.{_≡_};
 ghost use Prim.Native.Nat.{_+_, _^_, _<_, _≤_};
 ghost use lib.ListN.{length};
 ghost use Rattle.words.specs.Parts.{put};
-ghost use Rattle.sheet.specs.Sheet.{headerBytes, recordBytes, recordStart, totalFor, headerOf, recordOf, cellAt};
+ghost use Rattle.sheet.specs.Sheet.{headerBytes, recordBytes, recordStart, totalFor, cellNumbers, headerOf, recordOf, cellAt};
 
 // The sizes of specs/Sheet.antt, for the code.
 pub const MOST_CELLS: usize = 256;
@@ -61,11 +61,18 @@ pub fn put_header(bytes: &mut [u8], clock: i32, n: usize)
     put_words(bytes, 0, &numbers);
 }
 
+// The numbers of a cell's record.
+pub fn cell_numbers(c: Cell) -> [i32; 6]
+    ensures { λ r. ⌜ r ≡ cellNumbers c ⌝ }
+{
+    [c.id, c.x, c.vx, c.y, c.vy, c.expiry.at]
+}
+
 // Writes the cell's record in the place of record k.
 pub fn put_record(bytes: &mut [u8], k: usize, c: Cell)
     requires { ⌜ recordStart k + recordBytes ≤ length (now bytes) ⌝ }
     ensures { λ _. ⌜ now (bytes .exit) ≡ put (now (bytes .entry)) (recordStart k) recordBytes (recordOf c) ⌝ }
 {
-    let numbers = [c.id, c.x, c.vx, c.y, c.vy, c.expiry.at];
+    let numbers = cell_numbers(c);
     put_words(bytes, total_for(k), &numbers);
 }

@@ -1,4 +1,5 @@
--- What a pass over a node of the table needs: that the node lies in it, and that there is room for marks and keys.
+-- The pass over a node of the table: what it needs, that the node lies in the table and that there is room for marks and keys;
+-- that this is kept; and the loop over the node's entries.
 use mathlib.Core.Path.{_≡_, refl, ap, _∙_}
 use mathlib.Core.Bool.{Bool, true, false, not}
 use mathlib.Core.List.{List, [], _∷_}

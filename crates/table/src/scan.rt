@@ -12,16 +12,11 @@ use words::NODE_WORDS;
 use words::node_start;
 use words::place;
 ghost use mathlib.Core.Path.{_≡_};
-ghost use Prim.Native.Nat.{ℕ, _+_, _*_, _/_, _≤_, _<_};
-ghost use lib.IntN.{pos};
+ghost use Prim.Native.Nat.{_≤_, _<_};
 ghost use lib.ListN.{length};
-ghost use lib.Signed.{_≤ℤ_};
 ghost use Rattle.whole.specs.Tells.{Tells};
-ghost use Rattle.whole.specs.Lists.{_∈_};
 ghost use Rattle.words.specs.Layout.{InTable, nodeAt, entryAt, fullNode};
-ghost use Rattle.words.specs.Words.{natOf};
-ghost use Rattle.node.specs.Entry.{Entry, childWord, childOf, stampOf, entriesOf};
-ghost use Rattle.track.specs.Numbers.{IsMinute};
+ghost use Rattle.node.specs.Entry.{entriesOf};
 ghost use Rattle.table.specs.Header.{IsNode, nodesFor, wordsFor, entriesAt};
 ghost use Rattle.table.specs.Tree.{EntrySound};
 ghost use Rattle.table.specs.ScanParts.{ChildSound, NoneAfter, StampSound};
@@ -157,7 +152,7 @@ fn enter(
     true
 }
 
-// The pass over the entries of a node, and over all beneath them: for each inner entry it goes down to the child, which has
+// The pass over the entries of a node, and over all beneath them. The entries are gone over in a loop, and a child is a call, with
 // one level less beneath it. It marks the nodes met and gathers the identifiers after the first m keys.
 pub fn pass(
     t: &[i32],

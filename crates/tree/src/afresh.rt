@@ -2,7 +2,6 @@
 use node::change_at::put_at;
 use node::made::inner_entry;
 use node::made::work_out;
-use node::worked::latest;
 use table::scan::node_at;
 use words::Entry;
 ghost use mathlib.Core.Path.{_≡_};
@@ -20,9 +19,9 @@ pub fn entry_above(t: &[i32], child: usize, leaf: bool, minute: i32) -> Entry
     requires { ⌜ (InTable (now t) child) × (child < 2 ^ 31) × (IsMinute minute) × (InRangeAt leaf minute (entriesAt (now t) child)) ⌝ }
     ensures { λ r. ⌜ r ≡ entryAbove (entriesAt (now (t .entry))) leaf minute child ⌝ }
 {
-    let n = node_at(t, child);
-    let b = work_out(n, leaf, minute);
-    inner_entry(child, b, latest(n, leaf), minute)
+    let mut until = 0;
+    let b = work_out(node_at(t, child), leaf, minute, &mut until);
+    inner_entry(child, b, until, minute)
 }
 
 // Puts the entry above a node, worked out at the minute, in the place of node i's entry k.

@@ -1,5 +1,5 @@
 use mathlib.Core.Path.{_≡_}
-use Rattle.whole.specs.Within.{back}
+use Rattle.whole.specs.Within.{back, word-back}
 use Rattle.node.specs.Entry.{entriesOf}
 use Rattle.node.specs.WorkedOut.{hullOn}
 use Rattle.node.specs.Made.{workedOut}
@@ -9,18 +9,21 @@ use Rattle.node.proofs.made.work_out.Statement.{statement}
 use Rattle.node.proofs.made.work_out.Tie as tie
 
 -- what is worked out is in range, so it may be narrowed
-x-is : (c : tie.After-worked-row) → let a = c .before .args in c .worked-row .result ≡ hullOn (a .leaf) 0 (a .minute) (entriesOf (a .child .now))
-x-is c = simp (back (c .before .fits .minute)) at (c .worked-row .ensures)
+x-is : (c : tie.After-worked-row) → let a = c .before .before .args in c .worked-row .result ≡ hullOn (a .leaf) 0 (a .minute) (entriesOf (a .child .now))
+x-is c = simp (back (c .before .before .fits .minute)) at (c .worked-row .ensures)
 
-y-is : (c : tie.After-worked-row2) → let a = c .before .before .before .args in c .worked-row2 .result ≡ hullOn (a .leaf) 1 (a .minute) (entriesOf (a .child .now))
-y-is c = simp (back (c .before .before .before .fits .minute)) at (c .worked-row2 .ensures)
+y-is : (c : tie.After-worked-row2) → let a = c .before .before .before .before .args in c .worked-row2 .result ≡ hullOn (a .leaf) 1 (a .minute) (entriesOf (a .child .now))
+y-is c = simp (back (c .before .before .before .before .fits .minute)) at (c .worked-row2 .ensures)
+
+latest-requires : tie.Need-latest-requires
+latest-requires c κs = search needs
 
 worked-row-requires : tie.Need-worked-row-requires
 worked-row-requires c κs = search needs
 
 narrow-row-requires : tie.Need-narrow-row-requires
 narrow-row-requires c κs =
-    let s = c .before in
+    let s = c .before .before in
     rw (x-is c) (hullOn-kept (s .args .leaf) 0 (entriesOf (s .args .child .now)) (s .pre .0) (λ e m. s .pre .1 e m .x-in))
 
 worked-row-requires-2 : tie.Need-worked-row-requires-2
@@ -28,19 +31,24 @@ worked-row-requires-2 c κs = search needs
 
 narrow-row-requires-2 : tie.Need-narrow-row-requires-2
 narrow-row-requires-2 c κs =
-    let s = c .before .before .before in
+    let s = c .before .before .before .before in
     rw (y-is c) (hullOn-kept (s .args .leaf) 1 (entriesOf (s .args .child .now)) (s .pre .0) (λ e m. s .pre .1 e m .y-in))
 
 returns : tie.Need-returns
 unfolding workedOut
 returns c =
     let x = c .before .before in
-    rw (x .narrow-row .ensures, c .narrow-row2 .ensures, x-is (x .before), y-is (c .before))
+    let l = x .before .before in
+    let stored = word-back (l .latest .result) (l .latest .ok) in (
+      rw (x .narrow-row .ensures, c .narrow-row2 .ensures, x-is (x .before), y-is (c .before)),
+      (rw stored (l .latest .ensures), rw stored (record { sfits = l .latest .ok })),
+    )
 
 pub work-out-spec : {M : Type 1} → statement M
 work-out-spec =
     tie.close
     (tie.spec
+    latest-requires
     worked-row-requires
     narrow-row-requires
     worked-row-requires-2
