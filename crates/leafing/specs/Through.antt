@@ -24,7 +24,7 @@ numbersOf (c ∷ cells) = cellNumbers c ++ numbersOf cells
 abbrev pub throughReasons : List ℤ → List Cell → List ℤ → List Reason
 throughReasons w cells list = 1 when (Sound w → ⊥) ∷ 10 when (length list < recordNumbers * length cells) ∷ []
 
--- leafing through the table w gives r and leaves list′ of the list
+-- leafing through the words w, with this list lent, gives r and leaves list′: `cells` are what the steps from the opening give
 pub record LeafsThrough (w list : List ℤ) (r : Listed) (list′ : List ℤ) : Type 0 where
   pub cells : List Cell
   pub leafed : Leafed w (pos 0) cells

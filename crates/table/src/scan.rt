@@ -180,17 +180,9 @@ pub fn pass(
             if !enter(t, cells, clock, height - 1, n, k, &mut *marks) {
                 return Scan::Bad;
             }
-            let below = child(n, k);
-            match pass(
-                t,
-                cells,
-                clock,
-                height - 1,
-                below,
-                &mut *marks,
-                &mut *keys,
-                got,
-            ) {
+            let c = child(n, k);
+            let below = pass(t, cells, clock, height - 1, c, &mut *marks, &mut *keys, got);
+            match below {
                 Scan::Bad => return Scan::Bad,
                 Scan::Passed(more) => got = more,
             }

@@ -127,8 +127,8 @@ module _ (t : ℕ) where
       let d = c .before .before .before .before .before .before in
       simp (back (e .before .before .before .before .before .before .fits .clock)) at (left-bad (e .before .before .loop .inv) (e .before .before .before .node-at .ensures) (e .before .count .ensures) (e .if1 .taken) (d .before .before .before .before .before .before .before .before .before .if2 .left) (d .before .before .before .before .before .before .before .enter .ensures) (d .before .before .before .before .if4 .left) (d .before .before .before .child .ensures .0) (d .pass .ensures) (c .enum-told .given .1))
 
-  enum-known-more : lts.Need-enum-known-more (calls t) (entered t) reads.Post Inv-loop μ-loop
-  enum-known-more c = search needs
+  enum-known-below : lts.Need-enum-known-below (calls t) (entered t) reads.Post Inv-loop μ-loop
+  enum-known-below c = search needs
 
   add-k : lts.Need-add-k (calls t) (entered t) reads.Post Inv-loop μ-loop
   add-k c = search needs
@@ -180,7 +180,7 @@ pub +pass-spec : {M : Type 1} → statement M
     (same-length-5 t)
     (same-length-6 t)
     (returns-3 t)
-    (enum-known-more t)
+    (enum-known-below t)
     (add-k t)
     (loop-less t)
     (loop-again t)
