@@ -1,13 +1,14 @@
 -- The area integral is the area's, and the ranges of what it is made of, so that its products fit a machine's number.
-use mathlib.Core.Path.{_≡_, refl}
+use mathlib.Core.Path.{_≡_, refl, sym, subst}
 use mathlib.Core.Bool.{Bool, true, false, cond}
 use Prim.Native.Nat.{ℕ, _^_}
+use native.Mathlib.Nat.{le-trans}
 use native.Mathlib.Omega.{arith}
-use lib.IntN.{ℤ, pos, negℤ, _+ℤ_, _*ℤ_}
-use lib.Signed.{ltZ}
+use lib.IntN.{ℤ, pos, negℤ, natAbs, _+ℤ_, _*ℤ_}
+use lib.Signed.{_≤ℤ_, ltZ}
 use Rattle.whole.specs.Difference.{all4, difs}
 use Rattle.whole.specs.Order.{ltZ-false}
-use Rattle.whole.specs.Within.{Within, widen, lit-in, neg-in, add-in, sub-in, mul-in, between}
+use Rattle.whole.specs.Within.{Within, widen, lit-in, neg-in, add-in, sub-in, mul-in, between, from-zero, abs-positive}
 use Rattle.choice.specs.Area.{horizon, heldTo, widthOf, growthOf, areaAfter, areaIntegral}
 use Rattle.choice.specs.declared.area.Extent.{Extent}
 use Rattle.choice.specs.declared.area.Cover.{Cover}
@@ -23,6 +24,13 @@ held-in n z = by (ltZ z (negℤ (pos n))) (ltZ (pos n) z) refl refl
     by true high e f = neg-in (own-in n)
     by false true e f = own-in n
     by false false e f = between (ltZ-false e) (ltZ-false f)
+
+-- the same for a bound that is a number of the code
+pub held-below : {bound : ℤ} → pos 0 ≤ℤ bound → bound ≤ℤ pos (2 ^ 23) → (z : ℤ) → Within (2 ^ 23) (heldTo bound z)
+held-below {bound} low high z = widen-to (subst (λ (b : ℤ). Within (natAbs bound) (heldTo b z)) (sym (abs-positive bound low)) (held-in (natAbs bound) z))
+  where
+    widen-to : Within (natAbs bound) (heldTo bound z) → Within (2 ^ 23) (heldTo bound z)
+    widen-to h = record { abs = le-trans (h .abs) (from-zero low high .abs) }
 
 module _ (e : Extent) where
   pub width-in : Within (2 ^ 23) (widthOf e)

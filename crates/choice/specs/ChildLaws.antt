@@ -7,24 +7,17 @@ use native.Mathlib.Nat.{not-suc-le-zero}
 use native.Mathlib.Omega.{arith}
 use borrow.Author.Count.{below-more}
 use lib.IntN.{ℤ}
-use lib.Signed.{_≤ℤ_, _<ℤ_, ltZ, ltZ-yes, ≤ℤ-refl, clashℤ}
-use Rattle.whole.specs.Difference.{all3, difs}
-use Rattle.whole.specs.Order.{<ℤ-trans, <ℤ→≤ℤ, ≤ℤ-antisym, ≤ℤ-or-<ℤ}
+use lib.Signed.{_≤ℤ_, _<ℤ_, ltZ, ltZ-yes, <ℤ-≤ℤ-trans, <ℤ-irrefl}
+use Rattle.whole.specs.Order.{<ℤ-trans, ≤ℤ-antisym, ≤ℤ-or-<ℤ}
 use Rattle.whole.specs.Tells.{Tells}
 use Rattle.track.specs.Meets.{Bounds}
 use Rattle.choice.specs.Child.{childCost, Cheaper, CheapestOf}
 use Rattle.choice.specs.declared.child.Cost.{Cost}
 
-below-below : (a b c : ℤ) → a <ℤ b → b ≤ℤ c → a <ℤ c
-below-below = all3 _ λ _ _ _ _ _ _. simp difs (omega arith)
-
-below-same : {a b : ℤ} → a ≡ b → a <ℤ b → ⊥
-below-same {a} {b} e h = clashℤ h (subst (λ (z : ℤ). z ≤ℤ a) e (≤ℤ-refl a))
-
 -- ---- the order
 cheaper-not-itself : (c : Cost) → Cheaper c c → ⊥
-cheaper-not-itself c (inl h) = clashℤ h (<ℤ→≤ℤ h)
-cheaper-not-itself c (inr h) = clashℤ (h .1) (<ℤ→≤ℤ (h .1))
+cheaper-not-itself c (inl h) = <ℤ-irrefl h
+cheaper-not-itself c (inr h) = <ℤ-irrefl (h .1)
 
 cheaper-trans : {c d e : Cost} → Cheaper c d → Cheaper d e → Cheaper c e
 cheaper-trans (inl h) (inl k) = inl (<ℤ-trans h k)
@@ -42,17 +35,17 @@ cheaper-than-others {c} {d} {e} h not =
   where
     -- e grows no more than c, and no less than d: so all three grow alike
     by : e .growth ≤ℤ c .growth → d .growth ≤ℤ e .growth → Cheaper c d → Cheaper c e
-    by below up (inl k) = inl (below-below (c .growth) (d .growth) (e .growth) k up)
+    by below up (inl k) = inl (<ℤ-≤ℤ-trans k up)
     by below up (inr k) =
         let level : e .growth ≡ d .growth = ≤ℤ-antisym (e .growth) (d .growth) (subst (λ (z : ℤ). e .growth ≤ℤ z) (k .0) below) up in
         inr (
           k .0 ∙ sym level,
-          ⊎-elim (λ m. below-below (c .before) (d .before) (e .before) (k .1) m) (λ m. absurd (not (inr (level, m)))) (≤ℤ-or-<ℤ (d .before) (e .before)),
+          ⊎-elim (<ℤ-≤ℤ-trans (k .1)) (λ m. absurd (not (inr (level, m)))) (≤ℤ-or-<ℤ (d .before) (e .before)),
         )
 
 -- ---- the ways of the test
 pub tells-level : (c d : Cost) → c .growth ≡ d .growth → Tells (ltZ (c .before) (d .before)) (Cheaper c d)
-tells-level c d e = record { sure = λ t. inr (e, ltZ-yes t); seen = ⊎-elim (λ h. absurd (below-same e h)) (λ h. h .1 .lt) }
+tells-level c d e = record { sure = λ t. inr (e, ltZ-yes t); seen = ⊎-elim (λ h. absurd (<ℤ-irrefl (subst (λ (z : ℤ). z <ℤ d .growth) e h))) (λ h. h .1 .lt) }
 
 pub tells-growth : (c d : Cost) → (c .growth ≡ d .growth → ⊥) → Tells (ltZ (c .growth) (d .growth)) (Cheaper c d)
 tells-growth c d apart = record { sure = λ t. inl (ltZ-yes t); seen = ⊎-elim (λ h. h .lt) (λ h. absurd (apart (h .0))) }

@@ -1,7 +1,7 @@
 // The area that bounds cover over the coming minutes: the integral of the paper on the TPR-tree, §3.3, formula 1.
 use whole::wide;
 ghost use mathlib.Core.Path.{_≡_};
-ghost use lib.IntN.{pos, _+ℤ_, _*ℤ_};
+ghost use lib.IntN.{pos, _+ℤ_, _-ℤ_, _*ℤ_};
 ghost use lib.Signed.{_≤ℤ_};
 ghost use Prim.Native.Nat.{_^_};
 ghost use Rattle.track.specs.Hull.{lesser, greater};
@@ -55,6 +55,22 @@ fn held(z: i64, bound: i64) -> i64
     z
 }
 
+// By how much the high number is above the low one, each held to the bound.
+fn apart(low: i64, high: i64, bound: i64) -> i64
+    requires { ⌜ (pos 0 ≤ℤ bound) × (bound ≤ℤ pos (2 ^ 23)) ⌝ }
+    ensures { λ r. ⌜ r ≡ heldTo bound high -ℤ heldTo bound low ⌝ }
+{
+    held(high, bound) - held(low, bound)
+}
+
+// Twice the middle of the two, each held to the bound.
+fn twice_middle(low: i64, high: i64, bound: i64) -> i64
+    requires { ⌜ (pos 0 ≤ℤ bound) × (bound ≤ℤ pos (2 ^ 23)) ⌝ }
+    ensures { λ r. ⌜ r ≡ heldTo bound low +ℤ heldTo bound high ⌝ }
+{
+    held(low, bound) + held(high, bound)
+}
+
 // Where an edge that is at `at` at minute 0 and goes by v is at the minute.
 fn edge_at(at: i32, v: i32, minute: i32) -> i64
     ensures { λ r. ⌜ r ≡ at +ℤ v *ℤ minute ⌝ }
@@ -102,28 +118,28 @@ impl Extent {
     fn width(self) -> i64
         ensures { λ r. ⌜ r ≡ widthOf self ⌝ }
     {
-        held(self.high, FARTHEST) - held(self.low, FARTHEST) + 1
+        apart(self.low, self.high, FARTHEST) + 1
     }
 
     // By how much the width grows in a minute.
     fn growth(self) -> i64
         ensures { λ r. ⌜ r ≡ growthOf self ⌝ }
     {
-        held(self.fastest, FASTEST) - held(self.slowest, FASTEST)
+        apart(self.slowest, self.fastest, FASTEST)
     }
 
     // Twice the middle.
     pub fn place(self) -> i64
         ensures { λ r. ⌜ r ≡ placeOf self ⌝ }
     {
-        held(self.low, FARTHEST) + held(self.high, FARTHEST)
+        twice_middle(self.low, self.high, FARTHEST)
     }
 
     // Twice the middle of the velocities.
     pub fn velocity(self) -> i64
         ensures { λ r. ⌜ r ≡ velocityOf self ⌝ }
     {
-        held(self.slowest, FASTEST) + held(self.fastest, FASTEST)
+        twice_middle(self.slowest, self.fastest, FASTEST)
     }
 }
 

@@ -1,48 +1,29 @@
-use mathlib.Core.Path.{_≡_}
-use lib.IntN.{ℤ}
+use mathlib.Core.Path.{_≡_, _∙_}
+use lib.IntN.{_-ℤ_}
 use mir.Syntax.{w64}
 use mir.Val.{toZ, ofZ}
 use borrow.Author.Needs.{needs}
-use Rattle.whole.specs.Within.{back, fits, read64, sub-in, add-in, lit-in}
+use Rattle.whole.specs.Within.{fits, read64}
 use Rattle.choice.specs.Area.{heldTo, farthest}
-use Rattle.choice.specs.AreaLaws.{held-in}
-use Rattle.choice.proofs.Held.{held-read}
+use Rattle.choice.specs.AreaLaws.{width-in}
+use Rattle.choice.proofs.Held.{long-back}
 use Rattle.choice.proofs.area.Extent.width.Statement.{statement}
 use Rattle.choice.proofs.area.Extent.width.Tie as tie
 
-module _ (c : tie.After-held2) where
-  abbrev high : ℤ
-  high = c .before .before .before .before .args .self .high
+apart-is : (c : tie.After-apart) → let e = c .before .before .before .args .self in toZ w64 (ofZ w64 (c .apart .result)) ≡ heldTo farthest (e .high) -ℤ heldTo farthest (e .low)
+apart-is c =
+    let s = c .before .before .before in
+    long-back (c .apart .result) (c .apart .ok)
+    ∙ simp (long-back (s .args .self .low) (s .good .0 .1 .1 .0 .1), long-back (s .args .self .high) (s .good .0 .1 .1 .1 .0 .1)) at (c .apart .ensures)
 
-  abbrev low : ℤ
-  low = c .before .before .before .before .args .self .low
-
-  high-is : toZ w64 (ofZ w64 (c .before .before .held .result)) ≡ heldTo farthest high
-  high-is = held-read 3049120 high tt (rw (back (record { sfits = c .before .before .before .before .good .0 .1 .1 .1 .0 .1 })) at (c .before .before .held .ensures))
-
-  low-is : toZ w64 (ofZ w64 (c .held2 .result)) ≡ heldTo farthest low
-  low-is = held-read 3049120 low tt (rw (back (record { sfits = c .before .before .before .before .good .0 .1 .1 .0 .1 })) at (c .held2 .ensures))
-
-ruleset reads = (high-is, low-is)
-
-held-requires : tie.Need-held-requires
-held-requires c κs = search needs
-
-held-requires-2 : tie.Need-held-requires-2
-held-requires-2 c κs = search needs
-
-sub-result : tie.Need-sub-result
-sub-result c = simp reads (fits tt (sub-in (held-in 3049120 (high c)) (held-in 3049120 (low c))))
+apart-requires : tie.Need-apart-requires
+apart-requires c κs = search needs
 
 add-result : tie.Need-add-result
-add-result c =
-    let gap = sub-in (held-in 3049120 (high c)) (held-in 3049120 (low c)) in
-    simp (reads, read64 tt gap) (fits tt (add-in gap (lit-in 1 {bound = 1} tt)))
+add-result c = simp apart-is (fits tt (width-in (c .before .before .before .args .self)))
 
 returns : tie.Need-returns
-returns c =
-    let gap = sub-in (held-in 3049120 (high c)) (held-in 3049120 (low c)) in
-    simp (reads, read64 tt gap, read64 tt (add-in gap (lit-in 1 {bound = 1} tt)))
+returns c = simp (apart-is, read64 tt (width-in (c .before .before .before .args .self)))
 
 pub width-spec : {M : Type 1} → statement M
-width-spec = tie.close (tie.spec held-requires held-requires-2 sub-result add-result returns)
+width-spec = tie.close (tie.spec apart-requires add-result returns)

@@ -2,34 +2,34 @@ use mathlib.Core.Path.{_≡_, _∙_}
 use mir.Syntax.{w64}
 use mir.Val.{toZ, ofZ}
 use borrow.Author.Needs.{needs}
-use Rattle.whole.specs.Within.{back}
 use Rattle.track.specs.Hull.{lesser, greater}
+use Rattle.choice.proofs.Held.{long-back}
 use Rattle.choice.proofs.area.Extent.with.Statement.{statement}
 use Rattle.choice.proofs.area.Extent.with.Tie as tie
 
 low-is : (c : tie.After-lesser) → let a = c .before .before .before .args in toZ w64 (ofZ w64 (c .lesser .result)) ≡ lesser (a .self .low) (a .other .low)
 low-is c =
     let s = c .before .before .before in
-    back {w = w64} {z = c .lesser .result} (record { sfits = c .lesser .ok })
-    ∙ simp (back {w = w64} {z = s .args .self .low} (record { sfits = s .good .0 .1 .1 .0 .1 }), back {w = w64} {z = s .args .other .low} (record { sfits = s .good .1 .0 .1 .1 .0 .1 })) at (c .lesser .ensures)
+    long-back (c .lesser .result) (c .lesser .ok)
+    ∙ simp (long-back (s .args .self .low) (s .good .0 .1 .1 .0 .1), long-back (s .args .other .low) (s .good .1 .0 .1 .1 .0 .1)) at (c .lesser .ensures)
 
 high-is : (c : tie.After-greater) → let a = c .before .before .before .before .before .before .args in toZ w64 (ofZ w64 (c .greater .result)) ≡ greater (a .self .high) (a .other .high)
 high-is c =
     let s = c .before .before .before .before .before .before in
-    back {w = w64} {z = c .greater .result} (record { sfits = c .greater .ok })
-    ∙ simp (back {w = w64} {z = s .args .self .high} (record { sfits = s .good .0 .1 .1 .1 .0 .1 }), back {w = w64} {z = s .args .other .high} (record { sfits = s .good .1 .0 .1 .1 .1 .0 .1 })) at (c .greater .ensures)
+    long-back (c .greater .result) (c .greater .ok)
+    ∙ simp (long-back (s .args .self .high) (s .good .0 .1 .1 .1 .0 .1), long-back (s .args .other .high) (s .good .1 .0 .1 .1 .1 .0 .1)) at (c .greater .ensures)
 
 slowest-is : (c : tie.After-lesser2) → let a = c .before .before .before .before .before .before .before .before .before .args in toZ w64 (ofZ w64 (c .lesser2 .result)) ≡ lesser (a .self .slowest) (a .other .slowest)
 slowest-is c =
     let s = c .before .before .before .before .before .before .before .before .before in
-    back {w = w64} {z = c .lesser2 .result} (record { sfits = c .lesser2 .ok })
-    ∙ simp (back {w = w64} {z = s .args .self .slowest} (record { sfits = s .good .0 .1 .1 .1 .1 .0 .1 }), back {w = w64} {z = s .args .other .slowest} (record { sfits = s .good .1 .0 .1 .1 .1 .1 .0 .1 })) at (c .lesser2 .ensures)
+    long-back (c .lesser2 .result) (c .lesser2 .ok)
+    ∙ simp (long-back (s .args .self .slowest) (s .good .0 .1 .1 .1 .1 .0 .1), long-back (s .args .other .slowest) (s .good .1 .0 .1 .1 .1 .1 .0 .1)) at (c .lesser2 .ensures)
 
 fastest-is : (c : tie.After-greater2) → let a = c .before .before .before .before .before .before .before .before .before .before .before .before .args in toZ w64 (ofZ w64 (c .greater2 .result)) ≡ greater (a .self .fastest) (a .other .fastest)
 fastest-is c =
     let s = c .before .before .before .before .before .before .before .before .before .before .before .before in
-    back {w = w64} {z = c .greater2 .result} (record { sfits = c .greater2 .ok })
-    ∙ simp (back {w = w64} {z = s .args .self .fastest} (record { sfits = s .good .0 .1 .1 .1 .1 .1 .0 .1 }), back {w = w64} {z = s .args .other .fastest} (record { sfits = s .good .1 .0 .1 .1 .1 .1 .1 .0 .1 })) at (c .greater2 .ensures)
+    long-back (c .greater2 .result) (c .greater2 .ok)
+    ∙ simp (long-back (s .args .self .fastest) (s .good .0 .1 .1 .1 .1 .1 .0 .1), long-back (s .args .other .fastest) (s .good .1 .0 .1 .1 .1 .1 .1 .0 .1)) at (c .greater2 .ensures)
 
 lesser-requires : tie.Need-lesser-requires
 lesser-requires c κs = search needs
