@@ -9,7 +9,6 @@ use borrow.Author.Tests.{le-ltb}
 use mir.Syntax.{w32}
 use mir.Val.{SFits, toZ, ofZ}
 use mir.ValLaws as ValLaws
-use Rattle.whole.specs.Within.{back}
 
 pub less-negative : (z : ℤ) → z <ℤ pos 0 → negsuc 0 -ℤ z ≡ pos (mag z)
 less-negative (pos n) h = absurd (none (ltb→lt n 0 (h .lt)))

@@ -1,7 +1,6 @@
 use crate::cell::Cell;
 use crate::cell::Reported;
 use crate::interval::Interval;
-use crate::minute::Minute;
 use crate::query::Asked;
 use crate::query::Query;
 use whole::wide;

@@ -1,13 +1,13 @@
 -- From what is said of all inner entries to the entries themselves: after a change each is stamped at the minute, or stood there before with the same beneath it.
-use mathlib.Core.Path.{_≡_, refl, sym, ap, subst}
+use mathlib.Core.Path.{_≡_, refl, ap, subst}
 use mathlib.Core.Logic.{_⊎_, inr, ⊎-elim}
-use mathlib.Core.List.{List, [], _∷_, flatMap, map, List·Memᴰ·not-nil, List·Memᴰ·append-cases, Memᴰ·append-left, Memᴰ·append-right, Memᴰ·map, Memᴰ·of-map}
+use mathlib.Core.List.{List, [], flatMap, map, List·Memᴰ·not-nil, List·Memᴰ·append-cases, Memᴰ·append-left, Memᴰ·append-right, Memᴰ·map, Memᴰ·of-map}
 use Prim.Native.Nat.{ℕ, zero, suc}
 use native.Mathlib.Omega.{arith}
 use lib.IntN.{ℤ}
 use lib.ListN.{length}
 use Rattle.whole.specs.Lists.{_∈_}
-use Rattle.node.specs.Entry.{Entry, childOf, stampOf}
+use Rattle.node.specs.Entry.{childOf, stampOf}
 use Rattle.table.specs.Header.{capacity, clock, root, height, entriesAt}
 use Rattle.table.specs.Sound.{Sound}
 use Rattle.table.specs.Tree.{Nodes}
