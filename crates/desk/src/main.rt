@@ -108,7 +108,7 @@ fn most_turns() -> u64
     u64::MAX
 }
 
-// Reads piece after piece until the input ends or a file fails.
+// Reads piece after piece until the input ends or a file fails. At the start nothing is held of a line.
 fn run(
     t: &mut [i32],
     list: &mut [i32],
@@ -117,7 +117,7 @@ fn run(
     piece: &mut [u8],
     out: &mut [u8],
 )
-    requires { ⌜ CanServe (now list) (now line) (now held) (now out) ⌝ }
+    requires { ⌜ (CanServe (now list) (now line) (now held) (now out)) × (now held ≡ 0) ⌝ }
     ensures { λ _. ⌜ Ran (now (t .entry)) (now (line .entry)) (now (held .entry)) (now (t .exit)) (now (line .exit)) (now (held .exit)) ⌝ }
 {
     let mut turns = most_turns();

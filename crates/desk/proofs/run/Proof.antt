@@ -35,7 +35,7 @@ most-turns-requires c κs = search needs
 loop-holds : tie.Need-loop-holds Inv-loop μ-loop
 loop-holds c =
     let s = c .before .before .before .before in
-    (refl, refl, refl, refl, refl, s .pre .held-in, ([], heard-none (s .args .t .now) (s .args .line .now) (s .args .held .now)))
+    (refl, refl, refl, refl, refl, s .pre .0 .held-in, ([], heard-none (s .args .t .now) (s .args .line .now) (s .args .held .now)))
 
 read-requires : tie.Need-read-requires Inv-loop μ-loop
 read-requires c κs = search needs
