@@ -1,6 +1,5 @@
-pub mod Moving
-pub mod Tables
-pub mod TablesLaws
-pub mod Sheets
-pub mod SheetsLaws
-pub mod Changes
+pub mod MovingAnswer
+pub mod TableCalls
+pub mod SheetCalls
+pub mod ChangeCalls
+pub mod Laws

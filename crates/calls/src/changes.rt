@@ -1,7 +1,7 @@
 // The calls that change a table.
 use tree::change::drop;
 use tree::change::report;
-ghost use Rattle.calls.specs.Changes.{ReportGives, DropGives};
+ghost use Rattle.calls.specs.ChangeCalls.{ReportGives, DropGives};
 
 // Puts a cell in, in the place of a live one of the same identifier: 0, or the refusal's number.
 #[no_mangle]

@@ -5,14 +5,14 @@ use table::fresh::fresh;
 use track::cell::Cell;
 use track::meeting::answer;
 use track::minute::Minute;
-use track::query::Query;
+use track::queries::Query;
 use words::number;
 ghost use lib.Signed.{_≤ℤ_, _<ℤ_};
 ghost use Rattle.track.specs.Query.{queryFrom, windowFrom};
 ghost use Rattle.track.specs.Refusals.{Gives};
-ghost use Rattle.query.specs.Few.{Few};
-ghost use Rattle.calls.specs.Moving.{movingAnswers};
-ghost use Rattle.calls.specs.Tables.{FreshGives, InNumbers, QueryGives};
+ghost use Rattle.query.specs.Inner.Few.{Few};
+ghost use Rattle.calls.specs.MovingAnswer.{movingAnswers};
+ghost use Rattle.calls.specs.TableCalls.{FreshGives, InNumbers, QueryGives};
 
 pub mod changes;
 pub mod sheets;

@@ -2,21 +2,21 @@
 use leafing::opening_number;
 use leafing::search::Next;
 use leafing::step_from;
-use reading::read_sheet;
 use sheet::record::cell_numbers;
+use sheet_read::read_sheet;
+use sheet_write::Written;
+use sheet_write::write_sheet;
 use track::cell::Cell;
 use track::minute::Minute;
 use words::number;
-use writing::Written;
-use writing::write_sheet;
 ghost use mathlib.Core.Path.{_≡_};
 ghost use Rattle.track.specs.Refusals.{Gives};
 ghost use Rattle.leafing.specs.NextLive.{openingReasons};
-ghost use Rattle.calls.specs.Sheets.{Small, WrittenInNumbers, WriteGives, ReadGives, nextCell, isGiven, NextGives};
+ghost use Rattle.calls.specs.SheetCalls.{TotalFits, WrittenInNumbers, WriteGives, ReadGives, nextCell, isGiven, NextGives};
 
 // Hands an answer's total over, and tells its number.
 fn written_in_numbers(written: Written, total: &mut i32) -> i32
-    requires { ⌜ Small written ⌝ }
+    requires { ⌜ TotalFits written ⌝ }
     ensures { λ r. ⌜ WrittenInNumbers written r (now (total .exit)) ⌝ }
 {
     match written {

@@ -1,5 +1,2 @@
 pub mod Talked
-pub mod Talking
-pub mod Turning
-pub mod Running
-pub mod Begun
+pub mod Laws

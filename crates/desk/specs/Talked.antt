@@ -7,10 +7,10 @@ use Prim.Native.Nat.{ℕ, _≤_, _<_}
 use lib.IntN.{ℤ, pos}
 use lib.ListN.{length, take}
 use lib.Signed.{_<ℤ_}
-use Rattle.feed.specs.Parting.{NoFeed, lastLine}
-use Rattle.feed.specs.Held.{Held}
-use Rattle.answering.specs.Answered.{Session}
-use Rattle.answering.specs.Served.{Heard}
+use Rattle.desk_feed.specs.Lines.{NoFeed, lastLine}
+use Rattle.desk_feed.specs.Held.{Held}
+use Rattle.desk_serve.specs.Answered.{Session}
+use Rattle.desk_serve.specs.Served.{Heard}
 
 -- whatever line was begun, all of these bytes are heard, with some answers
 abbrev pub HearsAll : List ℤ → List ℕ → ℕ → List ℕ → List ℤ → List ℕ → ℕ → Type 0

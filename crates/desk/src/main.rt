@@ -1,6 +1,6 @@
 // The desk: lines from standard input, an answer to each on standard output.
-use answering::serving::end;
-use answering::serving::serve;
+use desk_serve::serving::end;
+use desk_serve::serving::serve;
 use libc::STDERR_FILENO;
 use libc::STDIN_FILENO;
 use libc::STDOUT_FILENO;
@@ -11,7 +11,7 @@ ghost use lib.IntN.{pos};
 ghost use lib.ListN.{length};
 ghost use Rattle.table.specs.Header.{greatestCapacity, wordsFor};
 ghost use Rattle.table.specs.Fresh.{IsFresh};
-ghost use Rattle.answering.specs.Served.{CanServe};
+ghost use Rattle.desk_serve.specs.Served.{CanServe};
 ghost use Rattle.desk.specs.Talked.{Talked, Finished, Turned, Ran};
 
 const CAPACITY: i32 = 256;

@@ -1,11 +1,6 @@
 pub mod NextLive
-pub mod NextLiveLaws
 pub mod Leafing
-pub mod Search
 pub mod Leafed
-pub mod LeafedLaws
-pub mod LiveCellsLaws
-pub mod LeafingLaws
 pub mod Through
-pub mod Gathering
-pub mod ThroughLaws
+pub mod Inner
+pub mod Laws

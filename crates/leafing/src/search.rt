@@ -15,7 +15,7 @@ ghost use Rattle.track.specs.Refusals.{Gives};
 ghost use Rattle.table.specs.Header.{entriesAt};
 ghost use Rattle.table.specs.Sound.{Sound};
 ghost use Rattle.leafing.specs.NextLive.{NextLive, Steps, openingReasons, lastAfter};
-ghost use Rattle.leafing.specs.Search.{Extends, Looks, CanLook};
+ghost use Rattle.leafing.specs.Inner.Search.{Extends, Looks, CanLook};
 
 // The next cell, or none where no more are left.
 pub enum Next {

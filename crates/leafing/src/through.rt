@@ -13,7 +13,7 @@ ghost use Rattle.words.specs.Parts.{put};
 ghost use Rattle.table.specs.Header.{greatestCapacity};
 ghost use Rattle.sheet.specs.Sheet.{cellNumbers};
 ghost use Rattle.leafing.specs.Through.{recordNumbers, LeafsThrough};
-ghost use Rattle.leafing.specs.Gathering.{isOne, countAfter, listAfter, Gathers};
+ghost use Rattle.leafing.specs.Inner.LeafingList.{isOne, countAfter, listAfter, Gathers};
 
 // How many numbers a cell has: a sheet record's six.
 pub const RECORD_NUMBERS: usize = 6;

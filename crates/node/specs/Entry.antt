@@ -15,23 +15,23 @@ abbrev pub Entry : Type 0
 Entry = List ℤ
 
 -- f 0, f 1, .. as many as n
-unfoldable pub firstOf : {A : Type 0} → (ℕ → A) → ℕ → List A
-firstOf f zero = []
-firstOf f (suc n) = firstOf f n ++ f n ∷ []
+unfoldable pub valuesTo : {A : Type 0} → (ℕ → A) → ℕ → List A
+valuesTo f zero = []
+valuesTo f (suc n) = valuesTo f n ++ f n ∷ []
 
 -- a node's first word is the count of its entries; it is taken for no more than a node has room for
-abbrev pub countWord : List ℤ → ℤ
-countWord node = wordAt node 0
+abbrev pub entryCountWord : List ℤ → ℤ
+entryCountWord node = wordAt node 0
 
 pub record IsCount (z : ℤ) : Type 0 where
   pub from : pos 0 ≤ℤ z
   pub to : z ≤ℤ pos fullNode
 
-unfoldable pub countOf : List ℤ → ℕ
-countOf node = min (natOf (countWord node)) fullNode
+unfoldable pub entryCount : List ℤ → ℕ
+entryCount node = min (natOf (entryCountWord node)) fullNode
 
 unfoldable pub entriesOf : List ℤ → List Entry
-entriesOf node = firstOf (entryAt node) (countOf node)
+entriesOf node = valuesTo (entryAt node) (entryCount node)
 
 -- ---- a leaf's entry
 unfoldable pub cellOf : Entry → Cell

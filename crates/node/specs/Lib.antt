@@ -1,11 +1,4 @@
 pub mod Entry
-pub mod EntryLaws
 pub mod WorkedOut
-pub mod Pass
-pub mod Ninth
-pub mod Change
-pub mod ChangeLaws
-pub mod ChangeAt
-pub mod ChangeAtLaws
-pub mod Made
-pub mod MadeLaws
+pub mod Inner
+pub mod Laws

@@ -11,12 +11,12 @@ ghost use Prim.Native.Nat.{_<_, _≤_};
 ghost use lib.ListN.{length};
 ghost use Rattle.words.specs.Layout.{nodeWords, entryWords, fullNode};
 ghost use Rattle.words.specs.Words.{withCount};
-ghost use Rattle.node.specs.Entry.{countOf};
-ghost use Rattle.node.specs.Change.{appended, removed};
+ghost use Rattle.node.specs.Entry.{entryCount};
+ghost use Rattle.node.specs.Inner.Change.{appended, removed};
 
 // The entry is put behind the others.
 pub fn append(node: &mut [i32], e: Entry)
-    requires { ⌜ (length (now node) ≡ nodeWords) × (countOf (now node) < fullNode) ⌝ }
+    requires { ⌜ (length (now node) ≡ nodeWords) × (entryCount (now node) < fullNode) ⌝ }
     ensures { λ _. ⌜ (now (node .exit) ≡ appended (now (node .entry)) e) × (length e ≡ entryWords) ⌝ }
 {
     let n = count(node);
@@ -26,7 +26,7 @@ pub fn append(node: &mut [i32], e: Entry)
 
 // Entry k is taken out: the later ones move down by one.
 pub fn remove(node: &mut [i32], k: usize)
-    requires { ⌜ (length (now node) ≡ nodeWords) × (k < countOf (now node)) ⌝ }
+    requires { ⌜ (length (now node) ≡ nodeWords) × (k < entryCount (now node)) ⌝ }
     ensures { λ _. ⌜ now (node .exit) ≡ removed (now (node .entry)) k ⌝ }
 {
     let n = count(node) - 1;
@@ -37,7 +37,7 @@ pub fn remove(node: &mut [i32], k: usize)
 
 // The first n entries are kept; with none the node is free.
 pub fn keep(node: &mut [i32], n: usize)
-    requires { ⌜ (length (now node) ≡ nodeWords) × (n ≤ countOf (now node)) ⌝ }
+    requires { ⌜ (length (now node) ≡ nodeWords) × (n ≤ entryCount (now node)) ⌝ }
     ensures { λ _. ⌜ now (node .exit) ≡ withCount (now (node .entry)) n ⌝ }
 {
     put_count(node, n);

@@ -12,8 +12,8 @@ ghost use Prim.Native.Nat.{_<_, _≤_};
 ghost use lib.ListN.{length};
 ghost use Rattle.words.specs.Layout.{entryWords, fullNode, InTable, nodeAt, setNode, entryAt, setEntry};
 ghost use Rattle.words.specs.Words.{withCount};
-ghost use Rattle.node.specs.Entry.{countOf};
-ghost use Rattle.node.specs.Change.{appended, removed};
+ghost use Rattle.node.specs.Entry.{entryCount};
+ghost use Rattle.node.specs.Inner.Change.{appended, removed};
 
 pub fn entry_at(t: &[i32], i: usize, k: usize) -> Entry
     requires { ⌜ (InTable (now t) i) × (k < fullNode) ⌝ }
@@ -34,7 +34,7 @@ pub fn put_at(t: &mut [i32], i: usize, k: usize, e: Entry)
 }
 
 pub fn append_at(t: &mut [i32], i: usize, e: Entry)
-    requires { ⌜ (InTable (now t) i) × (countOf (nodeAt (now t) i) < fullNode) ⌝ }
+    requires { ⌜ (InTable (now t) i) × (entryCount (nodeAt (now t) i) < fullNode) ⌝ }
     ensures { λ _. ⌜ (now (t .exit) ≡ setNode (now (t .entry)) i (appended (nodeAt (now (t .entry)) i) e)) × (length e ≡ entryWords) ⌝ }
 {
     let a = node_start(i);
@@ -43,7 +43,7 @@ pub fn append_at(t: &mut [i32], i: usize, e: Entry)
 }
 
 pub fn remove_at(t: &mut [i32], i: usize, k: usize)
-    requires { ⌜ (InTable (now t) i) × (k < countOf (nodeAt (now t) i)) ⌝ }
+    requires { ⌜ (InTable (now t) i) × (k < entryCount (nodeAt (now t) i)) ⌝ }
     ensures { λ _. ⌜ now (t .exit) ≡ setNode (now (t .entry)) i (removed (nodeAt (now (t .entry)) i) k) ⌝ }
 {
     let a = node_start(i);
@@ -52,7 +52,7 @@ pub fn remove_at(t: &mut [i32], i: usize, k: usize)
 }
 
 pub fn keep_at(t: &mut [i32], i: usize, n: usize)
-    requires { ⌜ (InTable (now t) i) × (n ≤ countOf (nodeAt (now t) i)) ⌝ }
+    requires { ⌜ (InTable (now t) i) × (n ≤ entryCount (nodeAt (now t) i)) ⌝ }
     ensures { λ _. ⌜ now (t .exit) ≡ setNode (now (t .entry)) i (withCount (nodeAt (now (t .entry)) i) n) ⌝ }
 {
     let a = node_start(i);

@@ -13,11 +13,11 @@ ghost use Prim.Native.Nat.{_<_, _^_};
 ghost use Rattle.whole.specs.Tells.{Tells};
 ghost use Rattle.words.specs.Layout.{entryAt, entryWords, fullNode};
 ghost use Rattle.words.specs.Words.{wordAt};
-ghost use Rattle.node.specs.Entry.{countWord, IsCount, countOf, cellOf, childWord, childOf, stampOf, boundsOf, untilOf};
+ghost use Rattle.node.specs.Entry.{entryCountWord, IsCount, entryCount, cellOf, childWord, childOf, stampOf, boundsOf, untilOf};
 
 // How many entries the node has, no more than it has room for.
 pub fn count(node: &[i32]) -> usize
-    ensures { λ r. ⌜ r ≡ countOf (now (node .entry)) ⌝ }
+    ensures { λ r. ⌜ r ≡ entryCount (now (node .entry)) ⌝ }
 {
     let n = place_at(node, 0);
     if n < FULL_NODE { n } else { FULL_NODE }
@@ -25,7 +25,7 @@ pub fn count(node: &[i32]) -> usize
 
 // Whether the word for the count is one.
 pub fn is_counted(node: &[i32]) -> bool
-    ensures { λ r. ⌜ Tells r (IsCount (countWord (now (node .entry)))) ⌝ }
+    ensures { λ r. ⌜ Tells r (IsCount (entryCountWord (now (node .entry)))) ⌝ }
 {
     let n = word(node, 0);
     if n < 0 {

@@ -9,10 +9,10 @@ ghost use Prim.Native.Nat.{_<_, _^_};
 ghost use mir.Syntax.{w32};
 ghost use mir.Val.{SFits};
 ghost use Rattle.track.specs.Numbers.{IsMinute, IsEdge};
-ghost use Rattle.track.specs.Small.{RowInRange};
+ghost use Rattle.track.specs.Inner.Small.{RowInRange};
 ghost use Rattle.node.specs.Entry.{entriesOf};
 ghost use Rattle.node.specs.WorkedOut.{latestOf};
-ghost use Rattle.node.specs.Made.{workedOut, innerEntry, leafEntry, InRangeAt};
+ghost use Rattle.node.specs.Inner.Made.{workedOut, innerEntry, leafEntry, InRangeAt};
 
 fn narrow(z: i64) -> i32
     requires { ⌜ IsEdge z ⌝ }

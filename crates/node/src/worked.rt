@@ -13,7 +13,7 @@ ghost use Rattle.track.specs.Numbers.{IsMinute};
 ghost use Rattle.track.specs.Hull.{greater};
 ghost use Rattle.node.specs.Entry.{entriesOf, stampOf};
 ghost use Rattle.node.specs.WorkedOut.{hullOn, latestOf, WorkedOut};
-ghost use Rattle.node.specs.Pass.{columnAt, outer, readingOf, extremeOf};
+ghost use Rattle.node.specs.Inner.Pass.{columnAt, outer, readingOf, extremeOf};
 
 // A column of a row at a minute: 0 and 1 the low and the high edge then, 2 and 3 the low and the high velocity.
 fn column_at(row: [i32; 4], column: usize, minute: i32) -> i64

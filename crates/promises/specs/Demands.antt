@@ -12,30 +12,31 @@ use Rattle.whole.specs.Lists.{_∈_}
 use Rattle.words.specs.Words.{natOf}
 use Rattle.track.specs.Life.{identifier}
 use Rattle.track.specs.Query.{queryFrom, windowFrom}
-use Rattle.track.specs.Refusals.{First, first-fixed, Gives}
+use Rattle.track.specs.Refusals.{First, Gives}
+use Rattle.track.specs.Laws.Refusals.{first-fixed}
 use Rattle.track.specs.declared.cell.Cell.{Cell}
-use Rattle.track.specs.declared.query.Query.{Query}
+use Rattle.track.specs.declared.queries.Query.{Query}
 use Rattle.table.specs.Header.{IsCapacity, capacityWord, clock, wordsFor}
 use Rattle.table.specs.Sound.{held, Sound, Live}
 use Rattle.query.specs.Hits.{Hits}
 use Rattle.query.specs.Opened.{openedNodes}
 use Rattle.leafing.specs.NextLive.{openingReasons}
-use Rattle.leafing.specs.NextLiveLaws.{same-by}
+use Rattle.leafing.specs.Laws.NextLive.{same-by}
 use Rattle.leafing.specs.declared.search.Next.{Next}
 use Rattle.leafing.specs.declared.search.Next.the-variants.{None}
 use Rattle.sheet.specs.Bytes.{AreBytes}
 use Rattle.sheet.specs.Sheet.{totalFor, cellNumbers}
 use Rattle.tree.specs.Steps.{outcomeNumber}
 use Rattle.alike.specs.Alike.{Alike}
-use Rattle.calls.specs.Tables.{FreshGives, QueryGives}
-use Rattle.calls.specs.Changes.{ReportGives, DropGives}
-use Rattle.calls.specs.Sheets.{WriteGives, ReadGives, isGiven, nextCell, NextGives}
-use Rattle.promises.specs.Calls.{Call, Fresh, Report, Drop, Window, Moving, Open, Leaf, Write, Read, Reply, Number, Listed, Given, Bytes, told, Happens, Run, reasonsOf, ChangesNothing, IsQuery, OnlyReads}
+use Rattle.calls.specs.TableCalls.{FreshGives, QueryGives}
+use Rattle.calls.specs.ChangeCalls.{ReportGives, DropGives}
+use Rattle.calls.specs.SheetCalls.{WriteGives, ReadGives, isGiven, nextCell, NextGives}
+use Rattle.promises.specs.Happens.{Call, Fresh, Report, Drop, Window, Moving, Open, Leaf, Write, Read, Reply, Number, Listed, Given, Bytes, told, Happens, Run, reasonsOf, ChangesNothing, IsQuery, OnlyReads}
 use Rattle.promises.specs.Model.{Model, Together, afterAll, Start, capacityAfter, Sized}
-use Rattle.promises.specs.Refused.{call-number, only-reads, call-refused, backward}
-use Rattle.promises.specs.Replies.{query-lists, query-counts, written-back, read-back, asked-in-numbers, wrote-in-numbers, opened-is}
-use Rattle.promises.specs.Together.{start-together, run-together, call-size, run-length}
-use Rattle.promises.specs.Same.{model-alike, call-alike, run-alike, reached-alike, exchanged-alike}
+use Rattle.promises.specs.Laws.Refused.{call-number, only-reads, call-refused, backward}
+use Rattle.promises.specs.Laws.Replies.{query-lists, query-counts, written-back, read-back, asked-in-numbers, wrote-in-numbers, opened-is}
+use Rattle.promises.specs.Laws.Together.{start-together, run-together, call-size, run-length}
+use Rattle.promises.specs.Laws.Same.{model-alike, call-alike, run-alike, reached-alike, exchanged-alike}
 
 -- ==== 1. No input does harm. Whatever words are lent as a table, and whatever else is given, a call is refused exactly when the scope says and by the number
 -- that it says, and a refusal changes nothing.

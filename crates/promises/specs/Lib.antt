@@ -1,7 +1,4 @@
-pub mod Calls
+pub mod Happens
 pub mod Model
-pub mod Refused
-pub mod Replies
-pub mod Together
-pub mod Same
 pub mod Demands
+pub mod Laws

@@ -13,7 +13,7 @@ use Rattle.track.specs.declared.cell.Cell.{Cell}
 use Rattle.table.specs.Header.{capacityWord, clock}
 use Rattle.table.specs.Sound.{Sound, Live}
 use Rattle.sheet.specs.Sheet.{clockOf, cellsOf}
-use Rattle.promises.specs.Calls.{Call, Fresh, Report, Drop, Window, Moving, Open, Leaf, Write, Read, Reply, Number, told, Happens}
+use Rattle.promises.specs.Happens.{Call, Fresh, Report, Drop, Window, Moving, Open, Leaf, Write, Read, Reply, Number, told, Happens}
 
 pub record Model : Type 0 where
   pub clock : ℤ

@@ -9,7 +9,7 @@ use Rattle.whole.specs.Lists.{_∈_}
 use Rattle.whole.specs.Rising.{Rising}
 use Rattle.track.specs.Meets.{CellMeets}
 use Rattle.track.specs.declared.cell.Cell.{Cell}
-use Rattle.track.specs.declared.query.Query.{Query}
+use Rattle.track.specs.declared.queries.Query.{Query}
 use Rattle.table.specs.Sound.{held}
 
 -- a held cell with this identifier meets the query

@@ -1,10 +1,5 @@
 pub mod Opened
 pub mod Hits
 pub mod Queried
-pub mod QueriedLaws
-pub mod Finding
-pub mod Opening
-pub mod Gathering
-pub mod Writing
-pub mod Answering
-pub mod Few
+pub mod Inner
+pub mod Laws

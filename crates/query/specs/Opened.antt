@@ -4,11 +4,11 @@ use mathlib.Core.List.{List, [], _∷_, flatMap}
 use Prim.Native.Nat.{ℕ, zero, suc}
 use lib.IntN.{ℤ}
 use Rattle.track.specs.Meets.{Meets}
-use Rattle.track.specs.Decides.{meets?}
-use Rattle.track.specs.declared.query.Query.{Query}
+use Rattle.track.specs.Laws.Decides.{meets?}
+use Rattle.track.specs.declared.queries.Query.{Query}
 use Rattle.node.specs.Entry.{Entry, childOf, boundsOf, untilOf}
 use Rattle.table.specs.Header.{root, height, entriesAt}
-use Rattle.table.specs.Tree.{Nodes}
+use Rattle.table.specs.SoundTree.{Nodes}
 
 -- an entry meets the query; `leaf` tells whether it is a leaf's
 abbrev pub EntryMeets : Query → Bool → Entry → Type 0

@@ -6,7 +6,7 @@ use lib.IntN.{ℤ}
 use lib.ListN.{length, drop}
 use Rattle.track.specs.Query.{queryReasons}
 use Rattle.track.specs.Refusals.{Reason, _when_, First, number}
-use Rattle.track.specs.declared.query.Query.{Query}
+use Rattle.track.specs.declared.queries.Query.{Query}
 use Rattle.table.specs.Header.{clock}
 use Rattle.table.specs.Sound.{Sound}
 use Rattle.query.specs.Opened.{openedNodes}

@@ -1,7 +1,7 @@
 // Queries of a table: which cells meet a rectangle, still or moving.
 use crate::answer::Answer;
 use crate::listing::answered;
-use track::query::Query;
+use track::queries::Query;
 use words::word;
 ghost use lib.Signed.{_≤ℤ_, _<ℤ_};
 ghost use Rattle.track.specs.Query.{queryFrom, windowFrom};

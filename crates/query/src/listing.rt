@@ -5,8 +5,8 @@ use crate::opening::open_entries;
 use sort::sort;
 use table::header::CELLS;
 use table::sound::is_sound;
-use track::query::Asked;
-use track::query::Query;
+use track::queries::Asked;
+use track::queries::Query;
 use track::refusal::Refusal;
 use words::place_at;
 ghost use mathlib.Core.Path.{_≡_};
@@ -17,9 +17,9 @@ ghost use lib.ListN.{length, take, drop};
 ghost use Rattle.track.specs.Query.{askedQuery};
 ghost use Rattle.table.specs.Header.{greatestCapacity};
 ghost use Rattle.query.specs.Queried.{Answers};
-ghost use Rattle.query.specs.Gathering.{CanAsk, Gathered};
-ghost use Rattle.query.specs.Writing.{CanWrite};
-ghost use Rattle.query.specs.Answering.{tooMany, Judged, judgedReasons};
+ghost use Rattle.query.specs.Inner.Gathering.{CanAsk, Gathered};
+ghost use Rattle.query.specs.Inner.IdsWritten.{CanWrite};
+ghost use Rattle.query.specs.Inner.Answering.{tooMany, Judged, judgedReasons};
 
 // Gathers the identifiers of the cells that meet the query, in rising order.
 fn gather(t: &[i32], k: Query, keys: &mut [u64]) -> Found

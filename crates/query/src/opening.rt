@@ -7,7 +7,7 @@ use node::entry::count;
 use node::entry::until;
 use table::scan::node_at;
 use track::meeting::meets;
-use track::query::Query;
+use track::queries::Query;
 use words::place;
 ghost use mathlib.Core.Path.{_≡_};
 ghost use Prim.Native.Nat.{_<_};
@@ -15,10 +15,10 @@ ghost use lib.ListN.{drop};
 ghost use Rattle.whole.specs.Tells.{Tells};
 ghost use Rattle.words.specs.Layout.{entryAt, fullNode};
 ghost use Rattle.table.specs.Header.{entriesAt};
-ghost use Rattle.table.specs.Tree.{isLeaf};
-ghost use Rattle.table.specs.Scan.{keyOf};
+ghost use Rattle.table.specs.SoundTree.{isLeaf};
+ghost use Rattle.table.specs.Inner.Scan.{keyOf};
 ghost use Rattle.query.specs.Opened.{EntryMeets};
-ghost use Rattle.query.specs.Opening.{CanTest, CanOpen, Opens};
+ghost use Rattle.query.specs.Inner.Opening.{CanTest, CanOpen, OpensEntries};
 
 // Whether entry e meets the query; its node has `height` levels beneath it.
 fn entry_meets(node: &[i32], e: usize, height: usize, k: Query) -> bool
@@ -50,7 +50,7 @@ pub fn open_entries(
     found: Found,
 ) -> Found
     requires { ⌜ CanOpen (now t) k height i from (now keys) found ⌝ }
-    ensures { λ r. ⌜ Opens (entriesAt (now (t .entry))) k height (drop from (entriesAt (now (t .entry)) i)) (now (keys .entry)) found r (now (keys .exit)) ⌝ }
+    ensures { λ r. ⌜ OpensEntries (entriesAt (now (t .entry))) k height (drop from (entriesAt (now (t .entry)) i)) (now (keys .entry)) found r (now (keys .exit)) ⌝ }
 {
     let node = node_at(t, i);
     if count(node) <= from {

@@ -30,8 +30,8 @@ unfoldable pub bytesOf : ℤ → List ℕ
 bytesOf z = fourBytes (ofZ w32 z)
 
 -- the word whose four bytes stand from `at` on
-unfoldable pub wordAt : List ℕ → ℕ → ℤ
-wordAt bytes at = toZ w32 (unsignedAt bytes at)
+unfoldable pub wordInBytes : List ℕ → ℕ → ℤ
+wordInBytes bytes at = toZ w32 (unsignedAt bytes at)
 
 abbrev pub wordOf : List ℕ → ℤ
-wordOf four = wordAt four 0
+wordOf four = wordInBytes four 0

@@ -1,11 +1,5 @@
-pub mod Accepted
 pub mod Bytes
-pub mod BytesLaws
-pub mod Complement
-pub mod HeaderLaws
-pub mod PutSheet
-pub mod PutWords
-pub mod Records
 pub mod Sheet
-pub mod SheetLaws
 pub mod WellFormed
+pub mod Inner
+pub mod Laws

@@ -5,7 +5,7 @@ use lib.IntN.{ℤ, pos}
 use lib.ListN.{length}
 use Rattle.words.specs.Words.{natOf}
 use Rattle.track.specs.declared.cell.Cell.{Cell}
-use Rattle.sheet.specs.Bytes.{bytesOf, wordAt}
+use Rattle.sheet.specs.Bytes.{bytesOf, wordInBytes}
 
 -- ---- sizes
 -- the most cells that a sheet may have
@@ -55,29 +55,29 @@ sheetOf clock cells = headerOf clock (length cells) ++ recordsOf cells
 
 -- ---- what bytes are read as
 abbrev pub countWord : List ℕ → ℤ
-countWord bytes = wordAt bytes 0
+countWord bytes = wordInBytes bytes 0
 
 abbrev pub offsetWord : List ℕ → ℤ
-offsetWord bytes = wordAt bytes 4
+offsetWord bytes = wordInBytes bytes 4
 
 abbrev pub clockOf : List ℕ → ℤ
-clockOf bytes = wordAt bytes 8
+clockOf bytes = wordInBytes bytes 8
 
 abbrev pub totalWord : List ℕ → ℤ
-totalWord bytes = wordAt bytes 12
+totalWord bytes = wordInBytes bytes 12
 
-abbrev pub countOf : List ℕ → ℕ
-countOf bytes = natOf (countWord bytes)
+abbrev pub recordCount : List ℕ → ℕ
+recordCount bytes = natOf (countWord bytes)
 
 -- the cell whose record starts at `at`
 unfoldable pub cellFrom : List ℕ → ℕ → Cell
 cellFrom bytes at = record {
-  id = wordAt bytes at;
-  x = wordAt bytes (at + 4);
-  vx = wordAt bytes (at + 8);
-  y = wordAt bytes (at + 12);
-  vy = wordAt bytes (at + 16);
-  expiry = record { at = wordAt bytes (at + 20) };
+  id = wordInBytes bytes at;
+  x = wordInBytes bytes (at + 4);
+  vx = wordInBytes bytes (at + 8);
+  y = wordInBytes bytes (at + 12);
+  vy = wordInBytes bytes (at + 16);
+  expiry = record { at = wordInBytes bytes (at + 20) };
 }
 
 -- the cell of record k
@@ -90,4 +90,4 @@ cellsFrom bytes k zero = []
 cellsFrom bytes k (suc n) = cellAt bytes k ∷ cellsFrom bytes (suc k) n
 
 abbrev pub cellsOf : List ℕ → List Cell
-cellsOf bytes = cellsFrom bytes 0 (countOf bytes)
+cellsOf bytes = cellsFrom bytes 0 (recordCount bytes)

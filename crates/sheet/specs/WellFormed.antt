@@ -7,12 +7,11 @@ use lib.Signed.{_≤ℤ_, _<ℤ_}
 use lib.ListN.{length}
 use Rattle.whole.specs.Lists.{_∈_}
 use Rattle.whole.specs.Rising.{Rising}
-use Rattle.track.specs.Life.{identifier, LivesAt}
+use Rattle.track.specs.Life.{identifier, LivesAt, CellInRange}
 use Rattle.track.specs.Numbers.{IsMinute}
-use Rattle.track.specs.Small.{CellInRange}
 use Rattle.track.specs.Refusals.{Reason, _when_, First, number}
 use Rattle.track.specs.declared.cell.Cell.{Cell}
-use Rattle.sheet.specs.Sheet.{headerBytes, totalFor, countWord, offsetWord, clockOf, totalWord, countOf, cellsOf}
+use Rattle.sheet.specs.Sheet.{headerBytes, totalFor, countWord, offsetWord, clockOf, totalWord, recordCount, cellsOf}
 use Rattle.sheet.specs.declared.judge.Judged.{Judged}
 use Rattle.sheet.specs.declared.judge.Judged.the-variants.{WellFormed, Refused}
 
@@ -27,7 +26,7 @@ pub record HeaderSound (limit : ℕ) (bytes : List ℕ) : Type 0 where
   pub count-in : IsCountTo limit (countWord bytes)
   pub offset-is : offsetWord bytes ≡ pos headerBytes
   pub clock-in : IsMinute (clockOf bytes)
-  pub total-is : totalWord bytes ≡ pos (totalFor (countOf bytes))
+  pub total-is : totalWord bytes ≡ pos (totalFor (recordCount bytes))
   -- the total is the length given
   pub total-given : totalWord bytes ≡ pos (length bytes)
 
@@ -68,5 +67,5 @@ judgedClock (Refused why) = pos 0
 pub record Judges (limit : ℕ) (bytes : List ℕ) (r : Judged) : Type 0 where
   pub refusal : First (sheetReasons limit bytes) (judgedNumber r)
   pub sound : judgedNumber r ≡ 0 → SheetSound limit bytes
-  pub count : judgedNumber r ≡ 0 → judgedCount r ≡ countOf bytes
+  pub count : judgedNumber r ≡ 0 → judgedCount r ≡ recordCount bytes
   pub clock : judgedNumber r ≡ 0 → judgedClock r ≡ clockOf bytes

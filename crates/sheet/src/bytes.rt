@@ -5,7 +5,7 @@ ghost use lib.ListN.{length};
 ghost use mir.Syntax.{w32};
 ghost use mir.Val.{toZ, ofZ};
 ghost use Rattle.words.specs.Parts.{put};
-ghost use Rattle.sheet.specs.Bytes.{byteAt, wordAt, bytesOf, wordBytes};
+ghost use Rattle.sheet.specs.Bytes.{byteAt, wordInBytes, bytesOf, wordBytes};
 ghost use Rattle.sheet.specs.Sheet.{bytesOfAll};
 
 const WORD: usize = 4;
@@ -49,7 +49,7 @@ fn unsigned(z: i32) -> u32
 
 // The word whose bytes stand from a place on. A place past the end is told apart, since the sums below might wrap there.
 pub fn read_word(bytes: &[u8], at: usize) -> i32
-    ensures { λ r. ⌜ r ≡ wordAt (now (bytes .entry)) at ⌝ }
+    ensures { λ r. ⌜ r ≡ wordInBytes (now (bytes .entry)) at ⌝ }
 {
     if bytes.len() <= at {
         return 0;

@@ -12,9 +12,9 @@ ghost use mathlib.Core.Path.{_≡_};
 ghost use Prim.Native.Nat.{_^_, _<_};
 ghost use lib.IntN.{pos};
 ghost use Rattle.whole.specs.Tells.{Tells};
-ghost use Rattle.sheet.specs.Sheet.{countOf};
+ghost use Rattle.sheet.specs.Sheet.{recordCount};
 ghost use Rattle.sheet.specs.WellFormed.{IsCountTo, HeaderSound, RecordsSound, Judges};
-ghost use Rattle.sheet.specs.Records.{Follows};
+ghost use Rattle.sheet.specs.Inner.Records.{Follows};
 
 // What is found of bytes: a sheet with so many cells and this clock, or why it is refused.
 pub enum Judged {
@@ -44,7 +44,7 @@ fn is_count_to(z: i32, limit: usize) -> bool
 
 // How many cells the header says there are.
 pub fn count_of(bytes: &[u8]) -> usize
-    ensures { λ r. ⌜ (r ≡ countOf (now (bytes .entry))) × (r < 2 ^ 31) ⌝ }
+    ensures { λ r. ⌜ (r ≡ recordCount (now (bytes .entry))) × (r < 2 ^ 31) ⌝ }
 {
     place(read_word(bytes, 0))
 }

@@ -11,9 +11,9 @@ use Rattle.words.specs.Layout.{nodeAt}
 use Rattle.track.specs.Numbers.{IsMinute}
 use Rattle.track.specs.Life.{identifier, LivesAt}
 use Rattle.track.specs.declared.cell.Cell.{Cell}
-use Rattle.node.specs.Entry.{cellOf, countWord, IsCount}
+use Rattle.node.specs.Entry.{cellOf, entryCountWord, IsCount}
 use Rattle.table.specs.Header.{capacityWord, capacity, clock, rootWord, root, heightWord, height, IsCapacity, nodesFor, wordsFor, IsNode, entriesAt}
-use Rattle.table.specs.Tree.{leavesOf, nodesOf, TreeSound}
+use Rattle.table.specs.SoundTree.{leavesOf, nodesOf, TreeSound}
 
 -- the nodes that are reached from the root
 abbrev pub reached : List ℤ → List ℕ
@@ -35,12 +35,12 @@ pub record Sound (w : List ℤ) : Type 0 where
   pub long-enough : wordsFor (capacity w) ≤ length w
   pub root-in : IsNode (capacity w) (rootWord w)
   pub height-in : pos 0 ≤ℤ heightWord w
-  pub counts-in : (i : ℕ) → i < nodesFor (capacity w) → IsCount (countWord (nodeAt w i))
+  pub counts-in : (i : ℕ) → i < nodesFor (capacity w) → IsCount (entryCountWord (nodeAt w i))
   -- an inner root has at least 2 entries
   pub root-filled : 0 < height w → 2 ≤ length (entriesAt w (root w))
   pub tree : TreeSound (entriesAt w) (capacity w) (clock w) (height w) (root w)
   -- each node is either free or reached from the root once
   pub reached-once : NoRepeat (reached w)
-  pub free-or-reached : (i : ℕ) → i < nodesFor (capacity w) → (countWord (nodeAt w i) ≡ pos 0) ⊎ (i ∈ reached w)
+  pub free-or-reached : (i : ℕ) → i < nodesFor (capacity w) → (entryCountWord (nodeAt w i) ≡ pos 0) ⊎ (i ∈ reached w)
   pub few-cells : length (held w) ≤ capacity w
   pub identifiers-once : NoRepeat (map identifier (held w))

@@ -11,7 +11,7 @@ ghost use Rattle.words.specs.Layout.{nodeStart};
 ghost use Rattle.words.specs.Words.{natOf};
 ghost use Rattle.table.specs.Header.{IsCapacity, wordsFor};
 ghost use Rattle.table.specs.Fresh.{IsFresh, MakesFresh, madeNumber};
-ghost use Rattle.table.specs.FreshLaws.{Freed};
+ghost use Rattle.table.specs.Inner.FreshMade.{Freed};
 
 pub enum Made {
     Fresh,

@@ -12,7 +12,7 @@ ghost use mathlib.Core.Path.{_≡_};
 ghost use Prim.Native.Nat.{_≤_};
 ghost use Rattle.whole.specs.Tells.{Tells};
 ghost use Rattle.table.specs.Header.{IsCapacity, wordsFor};
-ghost use Rattle.table.specs.SoundBy.{HeaderSound, RootSound};
+ghost use Rattle.table.specs.Inner.SoundBy.{TableHeaderSound, RootSound};
 
 // The greatest capacity of a table.
 pub const CELLS: usize = 256;
@@ -38,7 +38,7 @@ pub fn words_for(cells: usize) -> usize
 
 // Whether the lent words suffice for the capacity, and the header's other numbers are in range.
 pub fn header_sound(t: &[i32]) -> bool
-    ensures { λ r. ⌜ Tells r (HeaderSound (now (t .entry))) ⌝ }
+    ensures { λ r. ⌜ Tells r (TableHeaderSound (now (t .entry))) ⌝ }
 {
     if !is_capacity(word(t, 0)) {
         return false;
@@ -58,7 +58,7 @@ pub fn header_sound(t: &[i32]) -> bool
 
 // Whether the root has a count of entries, at least 2 where it is no leaf.
 pub fn root_sound(t: &[i32]) -> bool
-    requires { ⌜ HeaderSound (now t) ⌝ }
+    requires { ⌜ TableHeaderSound (now t) ⌝ }
     ensures { λ r. ⌜ Tells r (RootSound (now (t .entry))) ⌝ }
 {
     let root = node_at(t, place_at(t, 2));

@@ -18,10 +18,10 @@ ghost use Rattle.whole.specs.Tells.{Tells};
 ghost use Rattle.words.specs.Layout.{InTable, nodeAt, entryAt, fullNode};
 ghost use Rattle.node.specs.Entry.{entriesOf};
 ghost use Rattle.table.specs.Header.{IsNode, nodesFor, wordsFor, entriesAt};
-ghost use Rattle.table.specs.Tree.{EntrySound};
-ghost use Rattle.table.specs.ScanParts.{ChildSound, NoneAfter, StampSound};
-ghost use Rattle.table.specs.Scan.{Taken, Entered, Counted, Outcome};
-ghost use Rattle.table.specs.Ready.{Ready};
+ghost use Rattle.table.specs.SoundTree.{EntrySound};
+ghost use Rattle.table.specs.Inner.ScanParts.{ChildSound, NoneAfter, StampSound};
+ghost use Rattle.table.specs.Inner.Scan.{EntryTaken, Entered, NodeCounted, Outcome};
+ghost use Rattle.table.specs.Inner.Ready.{Ready};
 
 // What a pass over some entries comes to: so many identifiers gathered, or something that is not sound.
 pub enum Scan {
@@ -112,7 +112,7 @@ fn entry_sound(t: &[i32], cells: usize, clock: i32, below: usize, n: &[i32], k: 
 // Gathers the identifier of a leaf's entry k, if it is a cell in range and there is room for one more.
 fn take_cell(n: &[i32], k: usize, cells: usize, keys: &mut [u64], m: usize) -> bool
     requires { ⌜ (k < fullNode) × (cells ≤ length (now keys)) ⌝ }
-    ensures { λ r. ⌜ Taken cells (entryAt (now (n .entry)) k) (now (keys .entry)) m r (now (keys .exit)) ⌝ }
+    ensures { λ r. ⌜ EntryTaken cells (entryAt (now (n .entry)) k) (now (keys .entry)) m r (now (keys .exit)) ⌝ }
 {
     let c = cell(n, k);
     if !cell_in_range(c) {
@@ -136,7 +136,7 @@ fn enter(
     marks: &mut [u8],
 ) -> bool
     requires { ⌜ (cells ≤ 65536) × (wordsFor cells ≤ length (now t)) × (k < fullNode) × (nodesFor cells ≤ length (now marks)) ⌝ }
-    ensures { λ r. ⌜ Entered (entriesAt (now (t .entry))) (Counted (now (t .entry))) cells clock below (entryAt (now (n .entry)) k) (now (marks .entry)) r (now (marks .exit)) ⌝ }
+    ensures { λ r. ⌜ Entered (entriesAt (now (t .entry))) (NodeCounted (now (t .entry))) cells clock below (entryAt (now (n .entry)) k) (now (marks .entry)) r (now (marks .exit)) ⌝ }
 {
     if !entry_sound(t, cells, clock, below, n, k) {
         return false;
@@ -165,7 +165,7 @@ pub fn pass(
     m: usize,
 ) -> Scan
     requires { ⌜ Ready (now t) cells node (now marks) (now keys) m ⌝ }
-    ensures { λ r. ⌜ Outcome (entriesAt (now (t .entry))) (Counted (now (t .entry))) cells clock height (entriesAt (now (t .entry)) node) (now (marks .entry)) (now (keys .entry)) m r (now (marks .exit)) (now (keys .exit)) ⌝ }
+    ensures { λ r. ⌜ Outcome (entriesAt (now (t .entry))) (NodeCounted (now (t .entry))) cells clock height (entriesAt (now (t .entry)) node) (now (marks .entry)) (now (keys .entry)) m r (now (marks .exit)) (now (keys .exit)) ⌝ }
 {
     let n = node_at(t, node);
     let mut k = 0;

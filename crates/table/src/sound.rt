@@ -16,7 +16,7 @@ ghost use Rattle.whole.specs.Lists.{NoRepeat};
 ghost use Rattle.words.specs.Layout.{InTable};
 ghost use Rattle.table.specs.Header.{capacity, nodesFor, wordsFor};
 ghost use Rattle.table.specs.Sound.{Sound};
-ghost use Rattle.table.specs.SoundBy.{FreeUnless, RestFree, HeaderSound, RootSound, Clear};
+ghost use Rattle.table.specs.Inner.SoundBy.{FreeUnless, RestFree, TableHeaderSound, RootSound, Clear};
 
 // Whether node i is free, unless it has a mark.
 fn free_unless(t: &[i32], i: usize, mark: u8) -> bool
@@ -55,7 +55,7 @@ fn distinct(keys: &mut [u64]) -> bool
 
 // Whether a table whose header and root are sound is sound: one pass over the tree, then what it leaves.
 fn judged(t: &[i32], marks: &mut [u8], keys: &mut [u64]) -> bool
-    requires { ⌜ (HeaderSound (now t)) × (RootSound (now t)) × (Clear (now marks) (now keys)) ⌝ }
+    requires { ⌜ (TableHeaderSound (now t)) × (RootSound (now t)) × (Clear (now marks) (now keys)) ⌝ }
     ensures { λ r. ⌜ Tells r (Sound (now (t .entry))) ⌝ }
 {
     let cells = place_at(t, 0);
@@ -82,7 +82,7 @@ fn judged(t: &[i32], marks: &mut [u8], keys: &mut [u64]) -> bool
 }
 
 fn tree_sound(t: &[i32]) -> bool
-    requires { ⌜ (HeaderSound (now t)) × (RootSound (now t)) ⌝ }
+    requires { ⌜ (TableHeaderSound (now t)) × (RootSound (now t)) ⌝ }
     ensures { λ r. ⌜ Tells r (Sound (now (t .entry))) ⌝ }
 {
     let mut marks = [0u8; NODES];

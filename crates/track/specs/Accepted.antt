@@ -1,86 +1,13 @@
 -- What is accepted is in range: the cell of an accepted report, an accepted query, a cell of which no range can be denied.
-use mathlib.Core.Path.{_≡_, sym, subst}
-use lib.IntN.{ℤ}
-use Rattle.whole.specs.Order.{≤ℤ-stable}
-use Rattle.whole.specs.Within.{within-stable}
-use Rattle.track.specs.Numbers.{IsMinute, IsIdentifier, kept-in}
-use Rattle.track.specs.Refusals.{none-holds, not-zero}
-use Rattle.track.specs.Report.{ReportInRange, reportReasons, keptCell, reportNumber, reportCell, Reports}
-use Rattle.track.specs.Query.{EdgesInRange, QueryInRange, queryReasons, askedNumber, askedQuery, Asks}
-use Rattle.track.specs.Small.{CellInRange}
-use Rattle.track.specs.declared.cell.Cell.{Cell}
+use mathlib.Core.Path.{_≡_}
+use Rattle.track.specs.Report.{reportNumber, reportCell}
+use Rattle.track.specs.Query.{QueryInRange, askedNumber, askedQuery}
+use Rattle.track.specs.Life.{CellInRange}
 use Rattle.track.specs.declared.cell.Reported.{Reported}
-use Rattle.track.specs.declared.query.Edges.{Edges}
-use Rattle.track.specs.declared.query.Query.{Query}
-use Rattle.track.specs.declared.query.Asked.{Asked}
+use Rattle.track.specs.declared.queries.Asked.{Asked}
 
 abbrev pub KeptInRange : Reported → Type 0
 KeptInRange r = reportNumber r ≡ 0 → CellInRange (reportCell r)
 
 abbrev pub TakenInRange : Asked → Type 0
 TakenInRange a = askedNumber a ≡ 0 → QueryInRange (askedQuery a)
-
--- ---- 4 says that a range is not kept; where it is not given no range can be denied, so each is kept
-pub minute-stable : {m : ℤ} → ((IsMinute m → ⊥) → ⊥) → IsMinute m
-minute-stable f = record { from = ≤ℤ-stable (λ n. f (λ h. n (h .from))); to = ≤ℤ-stable (λ n. f (λ h. n (h .to))) }
-
-identifier-stable : {id : ℤ} → ((IsIdentifier id → ⊥) → ⊥) → IsIdentifier id
-identifier-stable f = record { from = ≤ℤ-stable (λ n. f (λ h. n (h .from))); to = ≤ℤ-stable (λ n. f (λ h. n (h .to))) }
-
-report-stable : {id x y vx vy minute expiry : ℤ} → ((ReportInRange id x y vx vy minute expiry → ⊥) → ⊥) → ReportInRange id x y vx vy minute expiry
-report-stable f = record {
-  identifier = identifier-stable (λ n. f (λ h. n (h .identifier)));
-  x-in = within-stable (λ n. f (λ h. n (h .x-in)));
-  y-in = within-stable (λ n. f (λ h. n (h .y-in)));
-  vx-in = within-stable (λ n. f (λ h. n (h .vx-in)));
-  vy-in = within-stable (λ n. f (λ h. n (h .vy-in)));
-  minute-in = minute-stable (λ n. f (λ h. n (h .minute-in)));
-  expiry-in = minute-stable (λ n. f (λ h. n (h .expiry-in)));
-}
-
-pub cell-stable : {c : Cell} → ((CellInRange c → ⊥) → ⊥) → CellInRange c
-cell-stable f = record {
-  identifier = identifier-stable (λ n. f (λ h. n (h .identifier)));
-  x-in = within-stable (λ n. f (λ h. n (h .x-in)));
-  vx-in = within-stable (λ n. f (λ h. n (h .vx-in)));
-  y-in = within-stable (λ n. f (λ h. n (h .y-in)));
-  vy-in = within-stable (λ n. f (λ h. n (h .vy-in)));
-  expiry-in = minute-stable (λ n. f (λ h. n (h .expiry-in)));
-}
-
-edges-stable : {e : Edges} → ((EdgesInRange e → ⊥) → ⊥) → EdgesInRange e
-edges-stable f = record {
-  low-in = within-stable (λ n. f (λ h. n (h .low-in)));
-  high-in = within-stable (λ n. f (λ h. n (h .high-in)));
-  low2-in = within-stable (λ n. f (λ h. n (h .low2-in)));
-  high2-in = within-stable (λ n. f (λ h. n (h .high2-in)));
-}
-
-query-stable : {k : Query} → ((QueryInRange k → ⊥) → ⊥) → QueryInRange k
-query-stable f = record {
-  start-in = minute-stable (λ n. f (λ h. n (h .start-in)));
-  end-in = minute-stable (λ n. f (λ h. n (h .end-in)));
-  x-in = edges-stable (λ n. f (λ h. n (h .x-in)));
-  y-in = edges-stable (λ n. f (λ h. n (h .y-in)));
-}
-
--- ---- so what is accepted is in range
-pub kept-cell-in : {id x y vx vy minute expiry : ℤ} → ReportInRange id x y vx vy minute expiry → CellInRange (keptCell id x y vx vy minute expiry)
-kept-cell-in h = record {
-  identifier = h .identifier;
-  x-in = kept-in (h .x-in) (h .vx-in) (h .minute-in);
-  vx-in = h .vx-in;
-  y-in = kept-in (h .y-in) (h .vy-in) (h .minute-in);
-  vy-in = h .vy-in;
-  expiry-in = h .expiry-in;
-}
-
-pub kept-in-range : {clock id x y vx vy minute expiry : ℤ} {r : Reported} → Reports clock id x y vx vy minute expiry r → KeptInRange r
-kept-in-range {clock} {id} {x} {y} {vx} {vy} {minute} {expiry} {r} h e =
-    let none = none-holds (reportReasons clock id x y vx vy minute expiry) (reportNumber r) (not-zero 3, (not-zero 4, (not-zero 5, tt))) (h .refusal) e in
-    subst CellInRange (sym (h .cell e)) (kept-cell-in (report-stable (none .0)))
-
-pub taken-in-range : {clock : ℤ} {Backward : Type 0} {k : Query} {a : Asked} → Asks clock Backward k a → TakenInRange a
-taken-in-range {clock} {Backward} {k} {a} h e =
-    let none = none-holds (queryReasons clock Backward k) (askedNumber a) (not-zero 3, (not-zero 4, (not-zero 6, tt))) (h .refusal) e in
-    subst QueryInRange (sym (h .query e)) (query-stable (none .0))

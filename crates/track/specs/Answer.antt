@@ -5,13 +5,13 @@ use mathlib.Core.Path.{_≡_}
 use Prim.Native.Nat.{ℕ}
 use lib.IntN.{ℤ}
 use lib.Signed.{_<ℤ_}
-use Rattle.track.specs.Refusals.{Reason, _when_, firstOf}
+use Rattle.track.specs.Refusals.{Reason, _when_, firstGiven}
 use Rattle.track.specs.Report.{ReportInRange, keptCell, reportNumber, reportCell}
 use Rattle.track.specs.Query.{QueryInRange, Crossed, askedNumber, askedQuery}
 use Rattle.track.specs.Meets.{CellMeets}
 use Rattle.track.specs.declared.cell.Reported.{Reported}
-use Rattle.track.specs.declared.query.Query.{Query}
-use Rattle.track.specs.declared.query.Asked.{Asked}
+use Rattle.track.specs.declared.queries.Query.{Query}
+use Rattle.track.specs.declared.queries.Asked.{Asked}
 
 -- `Backward` is end before start for a window, and also end at start for a moving query
 abbrev pub meetingReasons : ℤ → ℤ → ℤ → ℤ → ℤ → ℤ → ℤ → Type 0 → Query → List Reason
@@ -28,7 +28,7 @@ meetingAnswers id x y vx vy minute expiry Backward k =
 
 -- of a report and a query that were each answered before: the first refusal's number, 0 where neither is refused
 abbrev pub refusalOf : Reported → Asked → ℕ
-refusalOf r a = firstOf (reportNumber r) (askedNumber a)
+refusalOf r a = firstGiven (reportNumber r) (askedNumber a)
 
 -- and what is told of the two
 abbrev pub answersTo : Reported → Asked → List Reason

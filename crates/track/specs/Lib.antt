@@ -4,14 +4,9 @@ pub mod Report
 pub mod Life
 pub mod Query
 pub mod Meets
-pub mod Cut
-pub mod Decides
-pub mod Small
 pub mod Accepted
 pub mod Answer
-pub mod AnswerLaws
 pub mod Hull
 pub mod Tracks
-pub mod TracksHold
-pub mod HullLaws
-pub mod HullRange
+pub mod Inner
+pub mod Laws

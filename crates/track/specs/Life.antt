@@ -1,6 +1,7 @@
--- A cell by its identifier and its life, which ends with the expiry minute.
+-- A cell by its identifier, its ranges and its life, which ends with the expiry minute.
 use lib.IntN.{ℤ}
 use lib.Signed.{_≤ℤ_}
+use Rattle.track.specs.Numbers.{IsVelocity, IsMinute, IsKept, IsIdentifier}
 use Rattle.track.specs.declared.cell.Cell.{Cell}
 
 abbrev pub identifier : Cell → ℤ
@@ -9,3 +10,12 @@ identifier c = c .id
 -- the cell's expiry is not before the minute
 abbrev pub LivesAt : ℤ → Cell → Type 0
 LivesAt minute c = minute ≤ℤ c .expiry .at
+
+-- the ranges of a kept cell
+pub record CellInRange (c : Cell) : Type 0 where
+  pub identifier : IsIdentifier (c .id)
+  pub x-in : IsKept (c .x)
+  pub vx-in : IsVelocity (c .vx)
+  pub y-in : IsKept (c .y)
+  pub vy-in : IsVelocity (c .vy)
+  pub expiry-in : IsMinute (c .expiry .at)

@@ -7,8 +7,8 @@ use lib.IntN.{ℤ, pos, _+ℤ_, _-ℤ_, _*ℤ_}
 use lib.Signed.{_≤ℤ_, ltZ}
 use lib.ListN.{getD}
 use Rattle.track.specs.declared.cell.Cell.{Cell}
-use Rattle.track.specs.declared.query.Edges.{Edges}
-use Rattle.track.specs.declared.query.Query.{Query}
+use Rattle.track.specs.declared.queries.Edges.{Edges}
+use Rattle.track.specs.declared.queries.Query.{Query}
 
 -- an instant: the fraction p/q of a minute, q at least 1
 pub record Instant : Type 0 where

@@ -1,8 +1,7 @@
 -- The numbers of the trade: positions in units of 10 m, velocities in units a minute, minutes from 0 to 1,440.
 use lib.IntN.{ℤ, pos, _-ℤ_, _*ℤ_}
-use lib.Signed.{_≤ℤ_, leZ-yes}
-use Rattle.whole.specs.Order.{≤ℤ-trans}
-use Rattle.whole.specs.Within.{Within, mul-in, sub-in, from-zero}
+use lib.Signed.{_≤ℤ_}
+use Rattle.whole.specs.Within.{Within}
 
 pub record IsMinute (m : ℤ) : Type 0 where
   pub from : pos 0 ≤ℤ m
@@ -25,17 +24,6 @@ kept x v t = x -ℤ v *ℤ t
 
 abbrev pub IsKept : ℤ → Type 0
 IsKept = Within 837280
-
--- a report within its ranges is kept within 837,280 either side of 0
-pub minute-in : {m : ℤ} → IsMinute m → Within 1440 m
-minute-in h = from-zero (h .from) (h .to)
-
-pub kept-in : {x v t : ℤ} → IsPosition x → IsVelocity v → IsMinute t → IsKept (kept x v t)
-kept-in h k m = sub-in h (mul-in k (minute-in m))
-
--- an identifier fits a word
-pub identifier-in : {id : ℤ} → IsIdentifier id → Within 2147483647 id
-identifier-in h = from-zero (≤ℤ-trans (leZ-yes tt) (h .from)) (h .to)
 
 -- a kept edge of an entry
 abbrev pub IsEdge : ℤ → Type 0

@@ -1,16 +1,16 @@
 -- What a query asks, and when it is refused. A window is a query whose second rectangle is its first.
 use mathlib.Core.List.{List, [], _∷_}
-use mathlib.Core.Logic.{_⊎_, inl, inr, ⊎-elim, Iff·rfl}
-use mathlib.Core.Path.{_≡_, refl}
+use mathlib.Core.Logic.{_⊎_}
+use mathlib.Core.Path.{_≡_}
 use Prim.Native.Nat.{ℕ}
 use lib.IntN.{ℤ, pos}
 use lib.Signed.{_<ℤ_}
 use Rattle.track.specs.Numbers.{IsMinute, IsPosition}
-use Rattle.track.specs.Refusals.{Reason, _when_, First, first-as, number}
-use Rattle.track.specs.declared.query.Edges.{Edges}
-use Rattle.track.specs.declared.query.Query.{Query}
-use Rattle.track.specs.declared.query.Asked.{Asked}
-use Rattle.track.specs.declared.query.Asked.the-variants.{Taken, Refused}
+use Rattle.track.specs.Refusals.{Reason, _when_, First, number}
+use Rattle.track.specs.declared.queries.Edges.{Edges}
+use Rattle.track.specs.declared.queries.Query.{Query}
+use Rattle.track.specs.declared.queries.Asked.{Asked}
+use Rattle.track.specs.declared.queries.Asked.the-variants.{Taken, Refused}
 
 pub record EdgesInRange (e : Edges) : Type 0 where
   pub low-in : IsPosition (e .low)
@@ -61,13 +61,3 @@ askedQuery (Refused r) = queryFrom (pos 0) (pos 0) (pos 0) (pos 0) (pos 0) (pos 
 pub record Asks (clock : ℤ) (Backward : Type 0) (k : Query) (r : Asked) : Type 0 where
   pub refusal : First (queryReasons clock Backward k) (askedNumber r)
   pub query : askedNumber r ≡ 0 → askedQuery r ≡ k
-
--- another way to say that it is backward
-pub asks-as : {clock : ℤ} {P Q : Type 0} {k : Query} {r : Asked} → (P → Q) → (Q → P) → Asks clock P k r → Asks clock Q k r
-asks-as {clock} {P} {Q} {k} {r} f g a = record {
-  refusal =
-      first-as (queryReasons clock P k) (queryReasons clock Q k) (askedNumber r)
-      (refl, Iff·rfl, (refl, Iff·rfl, (refl, (⊎-elim (λ p. inl (f p)) inr, ⊎-elim (λ q. inl (g q)) inr), tt)))
-      (a .refusal);
-  query = a .query;
-}

@@ -13,8 +13,8 @@ use Rattle.track.specs.Query.{queryFrom, windowFrom}
 use Rattle.track.specs.Meets.{Instant, InQuery, Row, Touches, MeetsAt, CellMeets, cellBounds}
 use Rattle.track.specs.Hull.{hull, lowAt, highAt}
 use Rattle.track.specs.declared.cell.Cell.{Cell}
-use Rattle.track.specs.declared.query.Edges.{Edges}
-use Rattle.track.specs.declared.query.Query.{Query}
+use Rattle.track.specs.declared.queries.Edges.{Edges}
+use Rattle.track.specs.declared.queries.Query.{Query}
 
 -- ---- a stretch of time: `first to last`, both counted
 infix 70 _to_

@@ -8,7 +8,7 @@ use crate::refusal::Refusal;
 ghost use mathlib.Core.Path.{_≡_};
 ghost use Rattle.whole.specs.Tells.{Tells};
 ghost use Rattle.track.specs.Numbers.{IsPosition, IsVelocity, IsMinute, kept};
-ghost use Rattle.track.specs.Small.{CellInRange};
+ghost use Rattle.track.specs.Life.{CellInRange};
 ghost use Rattle.track.specs.Report.{ReportInRange, Reports};
 
 // A storm cell, kept at minute 0; its fields stand in the order of a sheet's record.

@@ -1,12 +1,12 @@
-use crate::query::Edges;
+use crate::queries::Edges;
 use whole::wide;
 ghost use mathlib.Core.Path.{_≡_};
 ghost use Rattle.whole.specs.Within.{Within};
 ghost use Rattle.track.specs.Numbers.{IsPosition, IsVelocity, IsEdge};
 ghost use Rattle.track.specs.Query.{EdgesInRange};
-ghost use Rattle.track.specs.Cut.{startsAt, endsAt, cutTo, livesIn};
-ghost use Rattle.track.specs.Decides.{gapLine, turnedLine, alongTo};
-ghost use Rattle.track.specs.Small.{Small, SmallLine, RowInRange};
+ghost use Rattle.track.specs.Inner.Cut.{startsAt, endsAt, cutTo, livesIn};
+ghost use Rattle.track.specs.Inner.Decides.{gapLine, turnedLine, alongTo};
+ghost use Rattle.track.specs.Inner.Small.{Small, SmallStraight, RowInRange};
 
 // The instants from lo/lod to hi/hid; empty where the one is after the other.
 pub struct Interval {
@@ -17,31 +17,31 @@ pub struct Interval {
 }
 
 // The line a + b τ.
-pub struct Line {
+pub struct Straight {
     pub a: i64,
     pub b: i64,
 }
 
 // By how much an edge that goes from `first` at the start to `second` at the end is above what is at
 // `at` at minute 0 and goes by `v`, multiplied by the span.
-fn gap(first: i32, second: i32, at: i32, v: i32, start: i64, span: i64) -> Line
+fn gap(first: i32, second: i32, at: i32, v: i32, start: i64, span: i64) -> Straight
     requires { ⌜ (IsPosition first) × (IsPosition second) × (IsEdge at) × (IsVelocity v) × (Within 1440 start) × (Within 1440 span) ⌝ }
     ensures { λ r. ⌜ r ≡ gapLine start span first second at v ⌝ }
 {
     let climb = wide(second) - wide(first);
-    Line {
+    Straight {
         a: span * (wide(first) - wide(at)) - climb * start,
         b: climb - span * wide(v),
     }
 }
 
-impl Line {
+impl Straight {
     // The line that is above 0 where this one is below.
-    fn turned(self) -> Line
-        requires { ⌜ SmallLine self ⌝ }
+    fn turned(self) -> Straight
+        requires { ⌜ SmallStraight self ⌝ }
         ensures { λ r. ⌜ r ≡ turnedLine self ⌝ }
     {
-        Line {
+        Straight {
             a: -self.a,
             b: -self.b,
         }
@@ -74,8 +74,8 @@ impl Interval {
     }
 
     // The part of the interval in which the line is not negative.
-    fn cut(self, line: Line) -> Interval
-        requires { ⌜ (Small self) × (SmallLine line) ⌝ }
+    fn cut(self, line: Straight) -> Interval
+        requires { ⌜ (Small self) × (SmallStraight line) ⌝ }
         ensures { λ r. ⌜ r ≡ cutTo self (line .a) (line .b) ⌝ }
     {
         let a = line.a;

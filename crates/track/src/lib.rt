@@ -3,6 +3,7 @@ pub mod cell;
 pub mod interval;
 pub mod meeting;
 pub mod minute;
-pub mod query;
+pub mod queries;
 pub mod range;
 pub mod refusal;
+pub mod report;

@@ -1,6 +1,6 @@
 ghost use mathlib.Core.Path.{_≡_};
 ghost use lib.IntN.{pos};
-ghost use Rattle.track.specs.Refusals.{number, firstOf};
+ghost use Rattle.track.specs.Refusals.{number, firstGiven};
 
 // Why a call is refused. A definition gives each its number.
 pub enum Refusal {
@@ -42,7 +42,7 @@ impl Refusal {
 
     // The number of the one that is given where both apply: the lesser.
     pub fn first(self, other: Refusal) -> i32
-        ensures { λ r. ⌜ r ≡ pos (firstOf (number self) (number other)) ⌝ }
+        ensures { λ r. ⌜ r ≡ pos (firstGiven (number self) (number other)) ⌝ }
     {
         let mine = self.number();
         let its = other.number();

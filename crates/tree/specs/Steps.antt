@@ -14,7 +14,7 @@ use Rattle.track.specs.Report.{reportReasons, keptCell}
 use Rattle.track.specs.declared.cell.Cell.{Cell}
 use Rattle.node.specs.Entry.{Entry, childOf, stampOf}
 use Rattle.table.specs.Header.{capacityWord, capacity, clock, root, height, wordsFor, entriesAt}
-use Rattle.table.specs.Tree.{Nodes, nodesOf}
+use Rattle.table.specs.SoundTree.{nodesOf, InnerEntry, innersOf}
 use Rattle.table.specs.Sound.{held, Live, Sound}
 use Rattle.tree.specs.declared.outcome.Outcome.{Outcome}
 use Rattle.tree.specs.declared.outcome.Outcome.the-variants.{Accepted, Refused}
@@ -24,19 +24,7 @@ abbrev pub outcomeNumber : Outcome → ℕ
 outcomeNumber Accepted = 0
 outcomeNumber (Refused r) = number r
 
--- an inner entry, and how many levels are beneath its child
-pub record InnerEntry : Type 0 where
-  pub levels : ℕ
-  pub entry : Entry
-
-abbrev pub innerAt : ℕ → Entry → InnerEntry
-innerAt h e = record { levels = h; entry = e }
-
--- the inner entries that are reached from node i, which has h levels beneath it, and those of a table
-unfoldable pub innersOf : Nodes → ℕ → ℕ → List InnerEntry
-innersOf N zero i = []
-innersOf N (suc h) i = map (innerAt h) (N i) ++ flatMap (λ e. innersOf N h (childOf e)) (N i)
-
+-- the inner entries of a table's tree
 abbrev pub inners : List ℤ → List InnerEntry
 inners w = innersOf (entriesAt w) (height w) (root w)
 

@@ -16,8 +16,8 @@ ghost use mathlib.Core.Path.{_≡_};
 ghost use Rattle.whole.specs.Tells.{Tells};
 ghost use Rattle.table.specs.Sound.{Sound};
 ghost use Rattle.tree.specs.Steps.{outcomeNumber, DropInRange, ReportSteps, DropSteps};
-ghost use Rattle.tree.specs.StayingLaws.{manyStay};
-ghost use Rattle.tree.specs.Outcomes.{CanReport, CellSteps};
+ghost use Rattle.tree.specs.Inner.StayingCells.{manyStay};
+ghost use Rattle.tree.specs.Inner.Outcomes.{CanReport, CellSteps};
 
 // How many cells stay in a sound table.
 fn staying_in(t: &[i32], minute: i32, id: i32) -> usize

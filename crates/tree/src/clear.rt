@@ -1,13 +1,13 @@
 // Clearing out the cells that go.
-use crate::at::child_at;
-use crate::at::count_at;
 use crate::header::set_root;
-use crate::take::take_out;
 use node::change_at::keep_at;
+use tree_nodes::at::child_at;
+use tree_nodes::at::count_at;
+use tree_nodes::take::take_out;
 use words::place_at;
-ghost use Rattle.tree.specs.Holding.{Holding};
-ghost use Rattle.tree.specs.Settle.{IsLoose, Settles};
-ghost use Rattle.tree.specs.Clear.{ClearsOne, Cleared};
+ghost use Rattle.tree.specs.Inner.Holding.{Holding};
+ghost use Rattle.tree.specs.Inner.Settle.{IsLoose, Settles};
+ghost use Rattle.tree.specs.Inner.Clear.{ClearsOne, Cleared};
 
 // An inner root with one entry gives way to its child.
 fn settle_root(t: &mut [i32])

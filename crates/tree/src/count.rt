@@ -1,11 +1,11 @@
 // How many cells stay when those that go are cleared out.
-use crate::at::child_at;
-use crate::at::count_at;
-use crate::take::goes;
 use node::entry::cell;
 use table::scan::node_at;
+use tree_nodes::at::child_at;
+use tree_nodes::at::count_at;
+use tree_nodes::take::goes;
 ghost use mathlib.Core.Path.{_≡_};
-ghost use Rattle.tree.specs.Staying.{CanCount, stayFrom};
+ghost use Rattle.tree.specs.Inner.Staying.{CanCount, stayFrom};
 
 // How many cells stay, of those below node i from its entry k on. The node has h levels beneath it.
 pub fn staying(t: &[i32], h: usize, i: usize, k: usize, minute: i32, id: i32) -> usize

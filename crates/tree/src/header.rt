@@ -3,7 +3,7 @@ use words::number;
 ghost use Prim.Native.Nat.{_^_, _≤_, _<_};
 ghost use lib.ListN.{length};
 ghost use Rattle.words.specs.Layout.{header};
-ghost use Rattle.tree.specs.Headed.{Rooted, Clocked};
+ghost use Rattle.tree.specs.Inner.Headed.{Rooted, Clocked};
 
 pub fn set_root(t: &mut [i32], root: usize, height: usize)
     requires { ⌜ (header ≤ length (now t)) × (root < 2 ^ 31) × (height < 2 ^ 31) ⌝ }

@@ -1,19 +1,19 @@
 // The root of a table's tree: it grows, and a cell is put in below it. How it gives way is in clear.rt.
-use crate::afresh::entry_above;
-use crate::at::count_at;
-use crate::at::nodes_of;
-use crate::free::free_node;
 use crate::header::set_root;
-use crate::part::part_child;
-use crate::put::put_in;
 use node::change_at::append_at;
 use track::cell::Cell;
+use tree_nodes::afresh::entry_above;
+use tree_nodes::at::count_at;
+use tree_nodes::at::nodes_of;
+use tree_nodes::free::free_node;
+use tree_nodes::part::part_child;
+use tree_nodes::put::put_in;
 use words::FULL_NODE;
 use words::place_at;
-ghost use Rattle.track.specs.Small.{CellInRange};
-ghost use Rattle.node.specs.Made.{leafEntry};
-ghost use Rattle.tree.specs.Grow.{CanGrow, Grown};
-ghost use Rattle.tree.specs.PutCell.{HasRoom, PutCell};
+ghost use Rattle.track.specs.Life.{CellInRange};
+ghost use Rattle.node.specs.Inner.Made.{leafEntry};
+ghost use Rattle.tree.specs.Inner.Grow.{CanGrow, Grown};
+ghost use Rattle.tree.specs.Inner.PutCell.{HasRoom, PutCell};
 
 // Puts a new root above the full one, which is parted.
 fn grow(t: &mut [i32], minute: i32)

@@ -1,3 +1,3 @@
-pub mod Sheet
-pub mod SheetLaws
-pub mod Window
+pub mod SheetAnswer
+pub mod WindowAnswer
+pub mod Laws

@@ -5,10 +5,10 @@ use sheet::record::MOST_CELLS;
 use track::cell::Cell;
 use track::meeting::answer;
 use track::minute::Minute;
-use track::query::Query;
+use track::queries::Query;
 ghost use Rattle.track.specs.Refusals.{Gives};
-ghost use Rattle.viewer.specs.Window.{windowAnswers};
-ghost use Rattle.viewer.specs.Sheet.{sheetAnswers};
+ghost use Rattle.viewer.specs.WindowAnswer.{windowAnswers};
+ghost use Rattle.viewer.specs.SheetAnswer.{sheetAnswers};
 
 // Whether the cell of a report meets a window: 1 for yes, 0 for no, else the refusal's number. The report's
 // own minute is the clock at which the window is asked; the report is made at the first minute, so none is early.

@@ -1,58 +1,7 @@
 -- What a test's answer tells: a Bool that is true exactly when a fact holds.
-use mathlib.Core.Path.{_≡_, refl, sym, subst}
-use mathlib.Core.Logic.{_↔_}
-use mathlib.Core.Bool.{Bool, true, false, not}
+use mathlib.Core.Bool.{Bool}
 use lib.Dec.{T}
 
 pub record Tells (b : Bool) (P : Type 0) : Type 0 where
   pub sure : T b → P
   pub seen : P → T b
-
--- a test that passed, and one that failed; a condition `!test(..)` gives the `not` forms
-pub passed : {b : Bool} {P : Type 0} → Tells b P → b ≡ true → P
-passed t e = t .sure (subst T (sym e) tt)
-
-pub failed : {b : Bool} {P : Type 0} → Tells b P → b ≡ false → P → ⊥
-failed t e p = subst T e (t .seen p)
-
-pub not-false : {b : Bool} → not b ≡ false → b ≡ true
-not-false {b = true} e = refl
-not-false {b = false} e = sym e
-
-pub not-true : {b : Bool} → not b ≡ true → b ≡ false
-not-true {b = true} e = sym e
-not-true {b = false} e = refl
-
-pub passed-not : {b : Bool} {P : Type 0} → Tells b P → not b ≡ false → P
-passed-not t e = passed t (not-false e)
-
-pub failed-not : {b : Bool} {P : Type 0} → Tells b P → not b ≡ true → P → ⊥
-failed-not t e = failed t (not-true e)
-
--- the answers true and false, and one that stands for another fact
-pub tells-true : {P : Type 0} → P → Tells true P
-tells-true p = record { sure = λ t. p; seen = λ q. tt }
-
-pub tells-false : {P : Type 0} → (P → ⊥) → Tells false P
-tells-false n = record { sure = λ t. absurd t; seen = n }
-
-pub tells-as : {b : Bool} {P Q : Type 0} → Tells b P → (P → Q) → (Q → P) → Tells b Q
-tells-as t f g = record { sure = λ h. f (t .sure h); seen = λ q. t .seen (g q) }
-
--- a Bool that tells a fact decides it
-pub decided : {b : Bool} {P : Type 0} → Tells b P → Dec P
-decided {b = true} t = yes (t .sure tt)
-decided {b = false} t = no (λ p. t .seen p)
-
--- a flag that is true exactly when a fact holds
-pub tells-iff : {b : Bool} {P : Type 0} → ((b ≡ true) ↔ P) → Tells b P
-tells-iff {b = true} e = record { sure = λ t. e .0 refl; seen = λ p. tt }
-tells-iff {b = false} e = record { sure = λ t. absurd t; seen = λ p. subst T (sym (e .1 p)) tt }
-
--- what cannot be denied holds, where it is decided, and so where a test tells it
-pub dec-stable : {P : Type 0} → Dec P → ((P → ⊥) → ⊥) → P
-dec-stable (yes p) f = p
-dec-stable (no n) f = absurd (f n)
-
-pub stable : {b : Bool} {P : Type 0} → Tells b P → ((P → ⊥) → ⊥) → P
-stable t = dec-stable (decided t)

@@ -5,8 +5,9 @@ use Prim.Native.Nat.{ℕ, _+_, _<_, _≤_}
 use native.Mathlib.Decide.{decLt}
 use native.Mathlib.Omega.{arith}
 use lib.ListN.{length, getD, set, length-set}
-use Rattle.words.specs.Parts.{part, put, CanCopy}
-use Rattle.words.specs.PartLaws.{length-part, part-next, getD-put-below, getD-put-above, put-none, put-next}
+use Rattle.words.specs.Parts.{part, put}
+use Rattle.words.specs.Inner.Parts.{CanCopy}
+use Rattle.words.specs.Laws.Parts.{length-part, part-next, getD-put-below, getD-put-above, put-none, put-next}
 
 -- of the n elements of a run, the first j are written to the list w from `to` on, which made it t
 pub record Written {A : Type 0} (run : ℕ → List A) (w t : List A) (to n j : ℕ) : Type 0 where

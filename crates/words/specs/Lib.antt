@@ -1,6 +1,5 @@
 pub mod Parts
-pub mod PartLaws
 pub mod Layout
-pub mod LayoutLaws
 pub mod Words
-pub mod WordLaws
+pub mod Laws
+pub mod Inner

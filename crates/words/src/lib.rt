@@ -3,7 +3,8 @@ ghost use mathlib.Core.Path.{_≡_};
 ghost use Prim.Native.Nat.{_+_, _^_, _<_, _≤_};
 ghost use lib.IntN.{pos};
 ghost use lib.ListN.{length, replicate};
-ghost use Rattle.words.specs.Parts.{part, put, CanCopy};
+ghost use Rattle.words.specs.Parts.{part, put};
+ghost use Rattle.words.specs.Inner.Parts.{CanCopy};
 ghost use Rattle.words.specs.Layout.{nodeStart, entryOffset, entryStart, nodeLimit, nodeWords, entryWords, fullNode, entryAt, setEntry};
 ghost use Rattle.words.specs.Words.{wordAt, natOf, rowAt, rowsAt, inLine, TwoRows, withCount};
 

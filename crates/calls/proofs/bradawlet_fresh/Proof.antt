@@ -1,7 +1,7 @@
 use mathlib.Core.Path.{sym, ap, _∙_}
 use lib.IntN.{pos}
 use borrow.Author.Needs.{needs}
-use Rattle.whole.specs.Within.{back, word-back}
+use Rattle.whole.specs.Laws.Within.{back, word-back}
 use Rattle.table.specs.Fresh.{MakesFresh, madeNumber}
 use Rattle.calls.proofs.bradawlet_fresh.Statement.{statement}
 use Rattle.calls.proofs.bradawlet_fresh.Tie as tie

@@ -1,9 +1,9 @@
 use lib.Signed.{_<ℤ_}
 use borrow.Author.Needs.{needs}
-use Rattle.whole.specs.Within.{back, word-back}
+use Rattle.whole.specs.Laws.Within.{back, word-back}
 use Rattle.track.specs.Query.{windowFrom}
 use Rattle.query.specs.Queried.{Queried}
-use Rattle.query.specs.Few.{answer-few}
+use Rattle.query.specs.Laws.Few.{answer-few}
 use Rattle.calls.proofs.bradawlet_window.Statement.{statement}
 use Rattle.calls.proofs.bradawlet_window.Tie as tie
 

@@ -1,8 +1,8 @@
 use mathlib.Core.Path.{refl, subst, _∙_}
 use native.Mathlib.Omega.{arith}
 use borrow.Author.Needs.{needs}
-use Rattle.whole.specs.Within.{word-back}
-use Rattle.query.specs.Few.{Few}
+use Rattle.whole.specs.Laws.Within.{word-back}
+use Rattle.query.specs.Inner.Few.{Few}
 use Rattle.calls.proofs.in_numbers.Statement.{statement}
 use Rattle.calls.proofs.in_numbers.Tie as tie
 

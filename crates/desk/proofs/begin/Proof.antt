@@ -1,4 +1,4 @@
-use Rattle.desk.specs.Begun.{made-fresh}
+use Rattle.desk.specs.Laws.Begun.{made-fresh}
 use borrow.Author.Needs.{needs}
 use Rattle.desk.proofs.begin.Statement.{statement}
 use Rattle.desk.proofs.begin.Tie as tie

@@ -4,10 +4,10 @@ use Prim.Native.Nat.{_≤_}
 use lib.ListN.{length}
 use mir.Syntax.{w64}
 use mir.Val.{toZ, ofZ}
-use Rattle.whole.specs.Tells.{not-false}
-use Rattle.whole.specs.Within.{back}
-use Rattle.desk.specs.Talking.{heard-none}
-use Rattle.desk.specs.Running.{HeardSome, ran-out, turned-on, turned-last}
+use Rattle.whole.specs.Laws.Tells.{not-false}
+use Rattle.whole.specs.Laws.Within.{back}
+use Rattle.desk.specs.Laws.Talking.{heard-none}
+use Rattle.desk.specs.Laws.Running.{HeardSome, ran-out, turned-on, turned-last}
 use borrow.Author.Needs.{needs}
 use Rattle.desk.proofs.run.Statement.{statement}
 use Rattle.desk.proofs.run.Tie as tie

@@ -5,7 +5,7 @@ use native.Mathlib.Omega.{arith}
 use lib.ListN.{length, take, drop, length-drop}
 use lib.Seq.{length-take-le}
 use Rattle.desk.specs.Talked.{HearsAll}
-use Rattle.desk.specs.Talking.{heard-none, heard-more}
+use Rattle.desk.specs.Laws.Talking.{heard-none, heard-more}
 use borrow.Author.Needs.{needs}
 use Rattle.desk.proofs.talk.Statement.{statement}
 use Rattle.desk.proofs.talk.Tie as tie

@@ -3,9 +3,9 @@ use lib.IntN.{pos}
 use lib.Signed.{_≤ℤ_}
 use mir.Syntax.{w64}
 use mir.Val.{toZ, ofZ}
-use Rattle.whole.specs.Within.{back}
-use Rattle.whole.specs.Order.{ltZ-true, ltZ-false}
-use Rattle.desk.specs.Turning.{turned-failed, turned-ended, turned-came}
+use Rattle.whole.specs.Laws.Within.{back}
+use Rattle.whole.specs.Laws.Order.{ltZ-true, ltZ-false}
+use Rattle.desk.specs.Laws.Turning.{turned-failed, turned-ended, turned-came}
 use borrow.Author.Needs.{needs}
 use Rattle.desk.proofs.turn.Statement.{statement}
 use Rattle.desk.proofs.turn.Tie as tie

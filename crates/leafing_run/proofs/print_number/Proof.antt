@@ -1,8 +1,8 @@
 use lib.IntN.{pos}
 use lib.Signed.{_<ℤ_}
-use Rattle.whole.specs.Within.{back}
-use Rattle.whole.specs.Order.{ltZ-true}
-use Rattle.sheet.specs.Complement.{less-negative, fits-turned}
+use Rattle.whole.specs.Laws.Within.{back}
+use Rattle.whole.specs.Laws.Order.{ltZ-true}
+use Rattle.sheet.specs.Laws.Complement.{less-negative, fits-turned}
 use borrow.Author.Needs.{needs}
 use Rattle.leafing_run.proofs.print_number.Statement.{statement}
 use Rattle.leafing_run.proofs.print_number.Tie as tie

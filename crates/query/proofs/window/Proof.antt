@@ -2,10 +2,10 @@ use mathlib.Core.Path.{_≡_, _∙_}
 use lib.Signed.{_<ℤ_}
 use mir.Syntax.{w32}
 use mir.Val.{toZ, ofZ}
-use Rattle.whole.specs.Within.{back, word-back}
+use Rattle.whole.specs.Laws.Within.{back, word-back}
 use Rattle.track.specs.Query.{Asks, windowFrom}
 use Rattle.table.specs.Header.{clock}
-use Rattle.query.specs.Answering.{judged-of, queried}
+use Rattle.query.specs.Laws.Answering.{judged-of, queried}
 use borrow.Author.Needs.{needs}
 use Rattle.query.proofs.window.Statement.{statement}
 use Rattle.query.proofs.window.Tie as tie

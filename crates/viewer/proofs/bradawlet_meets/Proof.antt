@@ -1,11 +1,11 @@
 use lib.IntN.{pos}
 use lib.Signed.{_<ℤ_}
 use borrow.Author.Needs.{needs}
-use Rattle.whole.specs.Within.{back, word-back}
+use Rattle.whole.specs.Laws.Within.{back, word-back}
 use Rattle.track.specs.Report.{Reports}
 use Rattle.track.specs.Query.{Asks, windowFrom}
-use Rattle.track.specs.Accepted.{kept-in-range, taken-in-range}
-use Rattle.track.specs.AnswerLaws.{answered}
+use Rattle.track.specs.Laws.Accepted.{kept-in-range, taken-in-range}
+use Rattle.track.specs.Laws.Answer.{answered}
 use Rattle.viewer.proofs.bradawlet_meets.Statement.{statement}
 use Rattle.viewer.proofs.bradawlet_meets.Tie as tie
 

@@ -1,6 +1,6 @@
 use mathlib.Core.Path.{_∙_}
-use Rattle.whole.specs.Within.{word-back}
-use Rattle.viewer.specs.SheetLaws.{tells-refusal, tells-well-formed}
+use Rattle.whole.specs.Laws.Within.{word-back}
+use Rattle.viewer.specs.Laws.SheetAnswer.{tells-refusal, tells-well-formed}
 use borrow.Author.Needs.{needs}
 use Rattle.viewer.proofs.bradawlet_sheet.Statement.{statement}
 use Rattle.viewer.proofs.bradawlet_sheet.Tie as tie

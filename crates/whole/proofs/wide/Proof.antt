@@ -1,4 +1,4 @@
-use Rattle.whole.specs.Within.{fits, back, any-in, read64}
+use Rattle.whole.specs.Laws.Within.{fits, back, any-in, read64}
 use Rattle.whole.proofs.wide.Statement.{statement}
 use Rattle.whole.proofs.wide.Tie as tie
 

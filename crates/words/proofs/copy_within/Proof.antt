@@ -3,7 +3,7 @@ use Prim.Native.Nat.{_-_}
 use borrow.Author.Needs.{needs}
 use lib.IntN.{pos}
 use Rattle.words.specs.Parts.{part}
-use Rattle.whole.specs.Within.{word-back}
+use Rattle.whole.specs.Laws.Within.{word-back}
 use Rattle.words.proofs.Runs.{Written, written-none, written-all, copied-next}
 use Rattle.words.proofs.copy_within.Statement.{statement}
 use Rattle.words.proofs.copy_within.Tie as tie

@@ -6,7 +6,7 @@ use lib.IntN.{ℤ}
 use lib.ListN.{replicate, length-replicate, replicate-append-replicate}
 use mir.Syntax.{w32}
 use mir.Val.{toZ, ofZ}
-use Rattle.whole.specs.Within.{back}
+use Rattle.whole.specs.Laws.Within.{back}
 use Rattle.words.proofs.Runs.{Written, written-none, written-next, written-all}
 use Rattle.words.proofs.fill.Statement.{statement}
 use Rattle.words.proofs.fill.Tie as tie

@@ -4,10 +4,10 @@ use native.Mathlib.Omega.{arith}
 use lib.IntN.{pos}
 use lib.Signed.{_≤ℤ_, yes-nonNeg}
 use mir.Syntax.{w32}
-use Rattle.whole.specs.Order.{ltZ-true, ltZ-false}
-use Rattle.whole.specs.Within.{back}
+use Rattle.whole.specs.Laws.Order.{ltZ-true, ltZ-false}
+use Rattle.whole.specs.Laws.Within.{back}
 use Rattle.words.specs.Words.{natOf}
-use Rattle.words.specs.WordLaws.{natOf-abs, natOf-fits, natOf-negative}
+use Rattle.words.specs.Laws.Words.{natOf-abs, natOf-fits, natOf-negative}
 use Rattle.words.proofs.place.Statement.{statement}
 use Rattle.words.proofs.place.Tie as tie
 

@@ -1,7 +1,7 @@
 use mathlib.Core.Path.{ap, _∙_}
 use borrow.Author.Needs.{needs}
 use Rattle.words.specs.Words.{natOf}
-use Rattle.whole.specs.Within.{word-back}
+use Rattle.whole.specs.Laws.Within.{word-back}
 use Rattle.words.proofs.place_at.Statement.{statement}
 use Rattle.words.proofs.place_at.Tie as tie
 

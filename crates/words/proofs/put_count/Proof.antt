@@ -1,5 +1,5 @@
 use Rattle.words.specs.Words.{withCount}
-use Rattle.whole.specs.Within.{word-back}
+use Rattle.whole.specs.Laws.Within.{word-back}
 use borrow.Author.Needs.{needs}
 use Rattle.words.proofs.put_count.Statement.{statement}
 use Rattle.words.proofs.put_count.Tie as tie

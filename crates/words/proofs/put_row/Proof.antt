@@ -6,9 +6,9 @@ use lib.IntN.{ℤ, pos}
 use mir.Syntax.{w32}
 use native.Mathlib.Omega.{arith}
 use lib.ListN.{length, getD, set, length-set}
-use Rattle.whole.specs.Within.{read-at}
+use Rattle.whole.specs.Laws.Within.{read-at}
 use Rattle.words.specs.Parts.{put}
-use Rattle.words.specs.PartLaws.{sets-put}
+use Rattle.words.specs.Laws.Parts.{sets-put}
 use borrow.Author.Needs.{needs}
 use Rattle.words.proofs.put_row.Statement.{statement}
 use Rattle.words.proofs.put_row.Tie as tie

@@ -1,7 +1,7 @@
 use mathlib.Core.List.{[]}
 use native.Mathlib.Omega.{arith}
 use lib.ListN.{getD}
-use Rattle.words.specs.PartLaws.{put-beside}
+use Rattle.words.specs.Laws.Parts.{put-beside}
 use borrow.Author.Needs.{needs}
 use Rattle.words.proofs.put_rows.Statement.{statement}
 use Rattle.words.proofs.put_rows.Tie as tie

@@ -1,8 +1,8 @@
 use mathlib.Core.Path.{sym}
 use borrow.Author.Needs.{needs}
 use Rattle.words.specs.Words.{rowAt}
-use Rattle.words.specs.WordLaws.{rowAt-past}
-use Rattle.whole.specs.Within.{word-back}
+use Rattle.words.specs.Laws.Words.{rowAt-past}
+use Rattle.whole.specs.Laws.Within.{word-back}
 use Rattle.words.proofs.row.Statement.{statement}
 use Rattle.words.proofs.row.Tie as tie
 

@@ -1,7 +1,7 @@
 use Prim.Native.Nat.{_+_}
 use native.Mathlib.Omega.{arith}
 use borrow.Author.Needs.{needs}
-use Rattle.words.specs.WordLaws.{rowAt-past}
+use Rattle.words.specs.Laws.Words.{rowAt-past}
 use Rattle.words.proofs.rows.Statement.{statement}
 use Rattle.words.proofs.rows.Tie as tie
 

@@ -1,5 +1,5 @@
 use mathlib.Core.Path.{_∙_}
-use Rattle.whole.specs.Within.{back, word-back}
+use Rattle.whole.specs.Laws.Within.{back, word-back}
 use Rattle.tree.specs.Steps.{outcomeNumber}
 use borrow.Author.Needs.{needs}
 use Rattle.calls.proofs.changes.bradawlet_report.Statement.{statement}

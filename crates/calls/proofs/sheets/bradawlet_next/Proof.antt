@@ -1,6 +1,6 @@
 use mathlib.Core.Path.{ap, _∙_}
 use borrow.Author.Needs.{needs}
-use Rattle.whole.specs.Within.{back, word-back}
+use Rattle.whole.specs.Laws.Within.{back, word-back}
 use Rattle.sheet.specs.Sheet.{cellNumbers}
 use Rattle.calls.proofs.sheets.bradawlet_next.Statement.{statement}
 use Rattle.calls.proofs.sheets.bradawlet_next.Tie as tie

@@ -1,5 +1,5 @@
 use mathlib.Core.Path.{_∙_}
-use Rattle.whole.specs.Within.{back, word-back}
+use Rattle.whole.specs.Laws.Within.{back, word-back}
 use borrow.Author.Needs.{needs}
 use Rattle.calls.proofs.sheets.bradawlet_read.Statement.{statement}
 use Rattle.calls.proofs.sheets.bradawlet_read.Tie as tie

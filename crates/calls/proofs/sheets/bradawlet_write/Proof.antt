@@ -1,6 +1,6 @@
 use borrow.Author.Needs.{needs}
-use Rattle.whole.specs.Within.{word-back}
-use Rattle.writing.specs.WrittenLaws.{written-few}
+use Rattle.whole.specs.Laws.Within.{word-back}
+use Rattle.sheet_write.specs.Laws.Written.{written-few}
 use Rattle.calls.proofs.sheets.bradawlet_write.Statement.{statement}
 use Rattle.calls.proofs.sheets.bradawlet_write.Tie as tie
 

@@ -1,6 +1,6 @@
 use mathlib.Core.Path.{sym, ap}
 use borrow.Author.Needs.{needs}
-use Rattle.calls.specs.Sheets.{isGiven}
+use Rattle.calls.specs.SheetCalls.{isGiven}
 use Rattle.calls.proofs.sheets.is_given.Statement.{statement}
 use Rattle.calls.proofs.sheets.is_given.Tie as tie
 

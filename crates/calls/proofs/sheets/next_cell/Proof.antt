@@ -1,6 +1,6 @@
 use mathlib.Core.Path.{sym, ap}
 use borrow.Author.Needs.{needs}
-use Rattle.calls.specs.Sheets.{nextCell}
+use Rattle.calls.specs.SheetCalls.{nextCell}
 use Rattle.calls.proofs.sheets.next_cell.Statement.{statement}
 use Rattle.calls.proofs.sheets.next_cell.Tie as tie
 

@@ -1,8 +1,8 @@
 use mathlib.Core.Path.{refl, subst, _∙_}
 use native.Mathlib.Omega.{arith}
 use borrow.Author.Needs.{needs}
-use Rattle.whole.specs.Within.{word-back}
-use Rattle.calls.specs.Sheets.{Small}
+use Rattle.whole.specs.Laws.Within.{word-back}
+use Rattle.calls.specs.SheetCalls.{TotalFits}
 use Rattle.calls.proofs.sheets.written_in_numbers.Statement.{statement}
 use Rattle.calls.proofs.sheets.written_in_numbers.Tie as tie
 
@@ -11,7 +11,7 @@ enum-known-written c = search needs
 
 number-requires : tie.Need-number-requires
 number-requires c κs =
-    let small = subst Small (c .before .written .given .1) (c .before .before .before .pre) in
+    let small = subst TotalFits (c .before .written .given .1) (c .before .before .before .pre) in
     omega (arith, small .small)
 
 enum-known-written-2 : tie.Need-enum-known-written-2

@@ -6,9 +6,10 @@ use borrow.Author.Needs.{needs}
 use borrow.Fn.Kinds.{In}
 use borrow.Fn.PlainCycle.{Measures, is, falls, and}
 use Rattle.words.specs.Layout.{nodeAt, entryAt, fullNode}
-use Rattle.node.specs.Entry.{countOf, childOf, cellOf}
-use Rattle.node.specs.EntryLaws.{count-fits}
-use Rattle.leafing.specs.Search.{Extends, looked-none, looked-cell, looked-child, none-left, one-more, can-child}
+use Rattle.node.specs.Entry.{entryCount, childOf, cellOf}
+use Rattle.node.specs.Laws.Entry.{count-fits}
+use Rattle.leafing.specs.Inner.Search.{Extends}
+use Rattle.leafing.specs.Laws.Search.{looked-none, looked-cell, looked-child, none-left, one-more, can-child}
 use Rattle.leafing.proofs.search.nearest.Reads as reads
 use Rattle.leafing.proofs.search.nearest.Kinds as kinds
 use Rattle.leafing.proofs.search.+nearest.Lts-nearest as lts
@@ -51,10 +52,10 @@ module _ (t : ℕ) where
   node-is : (c : lts.After-node-at (calls t) (entered t) reads.Post) → let a = c .before .args in c .node-at .result .now ≡ nodeAt (a .t .now) (a .i)
   node-is c = c .node-at .ensures
 
-  count-is : (c : lts.After-count (calls t) (entered t) reads.Post) → let a = c .before .before .args in c .count .result ≡ countOf (nodeAt (a .t .now) (a .i))
-  count-is c = c .count .ensures ∙ ap countOf (node-is (c .before))
+  count-is : (c : lts.After-count (calls t) (entered t) reads.Post) → let a = c .before .before .args in c .count .result ≡ entryCount (nodeAt (a .t .now) (a .i))
+  count-is c = c .count .ensures ∙ ap entryCount (node-is (c .before))
 
-  low : (c : lts.Else1 (calls t) (entered t) reads.Post) → let a = c .before .before .before .args in a .from < countOf (nodeAt (a .t .now) (a .i))
+  low : (c : lts.Else1 (calls t) (entered t) reads.Post) → let a = c .before .before .before .args in a .from < entryCount (nodeAt (a .t .now) (a .i))
   low c = omega (arith, c .if1 .left, count-is (c .before))
 
   in-node : (c : lts.Else1 (calls t) (entered t) reads.Post) → c .before .before .before .args .from < fullNode

@@ -1,6 +1,6 @@
 use mathlib.Core.Path.{sym, ap, _∙_}
 use mir.Syntax.{w32}
-use Rattle.whole.specs.Within.{back}
+use Rattle.whole.specs.Laws.Within.{back}
 use Rattle.leafing.specs.declared.search.Next.{Next}
 use Rattle.leafing.specs.NextLive.{lastAfter}
 use borrow.Author.Needs.{needs}

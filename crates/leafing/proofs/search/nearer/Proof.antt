@@ -2,10 +2,10 @@ use mathlib.Core.Path.{_≡_}
 use lib.Signed.{_<ℤ_, clashℤ}
 use mir.Syntax.{w32}
 use mir.Val.{toZ, ofZ}
-use Rattle.whole.specs.Order.{ltZ-true, ltZ-false, leZ-true, leZ-false, <ℤ→≤ℤ}
-use Rattle.whole.specs.Within.{back}
+use Rattle.whole.specs.Laws.Order.{ltZ-true, ltZ-false, leZ-true, leZ-false, <ℤ→≤ℤ}
+use Rattle.whole.specs.Laws.Within.{back}
 use Rattle.track.specs.Life.{LivesAt}
-use Rattle.leafing.specs.Search.{extends-passed, extends-first, extends-kept, extends-nearer}
+use Rattle.leafing.specs.Laws.Search.{extends-passed, extends-first, extends-kept, extends-nearer}
 use borrow.Author.Needs.{needs}
 use Rattle.leafing.proofs.search.nearer.Statement.{statement}
 use Rattle.leafing.proofs.search.nearer.Tie as tie

@@ -1,7 +1,7 @@
-use Rattle.whole.specs.Tells.{passed-not, failed-not}
-use Rattle.whole.specs.Within.{back}
+use Rattle.whole.specs.Laws.Tells.{passed-not, failed-not}
+use Rattle.whole.specs.Laws.Within.{back}
 use Rattle.table.specs.Sound.{Sound}
-use Rattle.leafing.specs.NextLiveLaws.{steps-sound, steps-unsound}
+use Rattle.leafing.specs.Laws.NextLive.{steps-sound, steps-unsound}
 use borrow.Author.Needs.{needs}
 use Rattle.leafing.proofs.search.next_live.Statement.{statement}
 use Rattle.leafing.proofs.search.next_live.Tie as tie

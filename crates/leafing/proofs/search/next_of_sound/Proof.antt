@@ -1,6 +1,6 @@
 use mathlib.Core.Path.{_∙_}
-use Rattle.whole.specs.Within.{back, word-back}
-use Rattle.leafing.specs.Search.{can-look, looked-all}
+use Rattle.whole.specs.Laws.Within.{back, word-back}
+use Rattle.leafing.specs.Laws.Search.{can-look, looked-all}
 use borrow.Author.Needs.{needs}
 use Rattle.leafing.proofs.search.next_of_sound.Statement.{statement}
 use Rattle.leafing.proofs.search.next_of_sound.Tie as tie

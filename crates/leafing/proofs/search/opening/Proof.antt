@@ -1,7 +1,7 @@
 use mathlib.Core.Path.{refl, _∙_}
 use mathlib.Core.Logic.{inl, inr}
-use Rattle.whole.specs.Tells.{passed, failed}
-use Rattle.whole.specs.Within.{word-back}
+use Rattle.whole.specs.Laws.Tells.{passed, failed}
+use Rattle.whole.specs.Laws.Within.{word-back}
 use borrow.Author.Needs.{needs}
 use Rattle.leafing.proofs.search.opening.Statement.{statement}
 use Rattle.leafing.proofs.search.opening.Tie as tie

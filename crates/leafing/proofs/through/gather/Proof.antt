@@ -53,7 +53,8 @@ use Rattle.table.specs.Header.{greatestCapacity}
 use Rattle.leafing.specs.NextLive.{openingReasons, lastAfter}
 use Rattle.leafing.specs.Leafing.{Opens}
 use Rattle.leafing.specs.Through.{recordNumbers}
-use Rattle.leafing.specs.Gathering.{isOne, countAfter, listAfter, Gathers, Going, turnsLeft, going-none, going-less, going-fits, going-next, gathered}
+use Rattle.leafing.specs.Inner.LeafingList.{isOne, countAfter, listAfter, Gathers}
+use Rattle.leafing.specs.Laws.LeafingList.{Going, turnsLeft, going-none, going-less, going-fits, going-next, gathered}
 use Rattle.leafing.specs.declared.Leafing.{Leafing}
 use Rattle.leafing.specs.declared.search.Next.{Next}
 use Rattle.leafing.specs.declared.through.Listed.{Listed}

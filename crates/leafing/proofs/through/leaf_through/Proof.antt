@@ -1,8 +1,8 @@
 use mathlib.Core.Path.{_∙_}
 use native.Mathlib.Omega.{arith}
 use borrow.Author.Needs.{needs}
-use Rattle.whole.specs.Within.{word-back}
-use Rattle.leafing.specs.ThroughLaws.{through-short, first-long, through-listed}
+use Rattle.whole.specs.Laws.Within.{word-back}
+use Rattle.leafing.specs.Laws.Through.{through-short, first-long, through-listed}
 use Rattle.leafing.proofs.through.leaf_through.Statement.{statement}
 use Rattle.leafing.proofs.through.leaf_through.Tie as tie
 

@@ -5,9 +5,9 @@ use lib.IntN.{pos}
 use lib.ListN.{length}
 use mir.Syntax.{w32}
 use borrow.Author.Needs.{needs}
-use Rattle.whole.specs.Within.{read-at}
+use Rattle.whole.specs.Laws.Within.{read-at}
 use Rattle.words.specs.Parts.{part}
-use Rattle.words.specs.PartLaws.{length-part, part-whole}
+use Rattle.words.specs.Laws.Parts.{length-part, part-whole}
 use Rattle.words.proofs.Runs.{Written, written-none, written-next, written-all, first-next}
 use Rattle.leafing.proofs.through.put_numbers.Statement.{statement}
 use Rattle.leafing.proofs.through.put_numbers.Tie as tie

@@ -1,4 +1,4 @@
-use Rattle.node.specs.Change.{appended}
+use Rattle.node.specs.Inner.Change.{appended}
 use borrow.Author.Needs.{needs}
 use Rattle.node.proofs.change.append.Statement.{statement}
 use Rattle.node.proofs.change.append.Tie as tie

@@ -1,4 +1,4 @@
-use Rattle.node.specs.EntryLaws.{count-fits}
+use Rattle.node.specs.Laws.Entry.{count-fits}
 use borrow.Author.Needs.{needs}
 use Rattle.node.proofs.change.keep.Statement.{statement}
 use Rattle.node.proofs.change.keep.Tie as tie

@@ -1,6 +1,6 @@
 use native.Mathlib.Omega.{arith}
-use Rattle.node.specs.Change.{removed}
-use Rattle.node.specs.EntryLaws.{count-fits}
+use Rattle.node.specs.Inner.Change.{removed}
+use Rattle.node.specs.Laws.Entry.{count-fits}
 use borrow.Author.Needs.{needs}
 use Rattle.node.proofs.change.remove.Statement.{statement}
 use Rattle.node.proofs.change.remove.Tie as tie

@@ -1,8 +1,8 @@
 use Prim.Native.Nat.{_<_}
 use Rattle.words.specs.Layout.{fullNode}
-use Rattle.words.specs.LayoutLaws.{lent-with, lent-node}
-use Rattle.node.specs.Entry.{countOf}
-use Rattle.node.specs.Change.{appended}
+use Rattle.words.specs.Laws.Layout.{lent-with, lent-node}
+use Rattle.node.specs.Entry.{entryCount}
+use Rattle.node.specs.Inner.Change.{appended}
 use borrow.Author.Needs.{needs}
 use Rattle.node.proofs.change_at.append_at.Statement.{statement}
 use Rattle.node.proofs.change_at.append_at.Tie as tie
@@ -28,7 +28,7 @@ part-append-end c = search needs
 append-requires : tie.Need-append-requires
 append-requires c κs =
     let a = c .before .before .args in
-    lent-with (λ n. countOf n < fullNode) (a .t .now) (a .i) (c .before .node-start .result) (search needs) (search needs) (search needs)
+    lent-with (λ n. entryCount n < fullNode) (a .t .now) (a .i) (c .before .node-start .result) (search needs) (search needs) (search needs)
 
 same-length : tie.Need-same-length
 same-length c = search needs

@@ -1,5 +1,5 @@
 use mathlib.Core.Path.{_∙_}
-use Rattle.words.specs.LayoutLaws.{lent-is-node}
+use Rattle.words.specs.Laws.Layout.{lent-is-node}
 use borrow.Author.Needs.{needs}
 use Rattle.node.proofs.change_at.entry_at.Statement.{statement}
 use Rattle.node.proofs.change_at.entry_at.Tie as tie

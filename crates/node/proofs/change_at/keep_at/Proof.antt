@@ -1,6 +1,6 @@
 use Prim.Native.Nat.{_≤_}
-use Rattle.words.specs.LayoutLaws.{lent-with, lent-node}
-use Rattle.node.specs.Entry.{countOf}
+use Rattle.words.specs.Laws.Layout.{lent-with, lent-node}
+use Rattle.node.specs.Entry.{entryCount}
 use Rattle.words.specs.Words.{withCount}
 use borrow.Author.Needs.{needs}
 use Rattle.node.proofs.change_at.keep_at.Statement.{statement}
@@ -27,7 +27,7 @@ part-keep-end c = search needs
 keep-requires : tie.Need-keep-requires
 keep-requires c κs =
     let a = c .before .before .args in
-    lent-with (λ n. a .n ≤ countOf n) (a .t .now) (a .i) (c .before .node-start .result) (search needs) (search needs) (search needs)
+    lent-with (λ n. a .n ≤ entryCount n) (a .t .now) (a .i) (c .before .node-start .result) (search needs) (search needs) (search needs)
 
 same-length : tie.Need-same-length
 same-length c = search needs

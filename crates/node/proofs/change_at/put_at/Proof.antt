@@ -1,5 +1,5 @@
 use Rattle.words.specs.Layout.{setEntry}
-use Rattle.words.specs.LayoutLaws.{lent-node}
+use Rattle.words.specs.Laws.Layout.{lent-node}
 use borrow.Author.Needs.{needs}
 use Rattle.node.proofs.change_at.put_at.Statement.{statement}
 use Rattle.node.proofs.change_at.put_at.Tie as tie

@@ -1,7 +1,7 @@
 use Prim.Native.Nat.{_<_}
-use Rattle.words.specs.LayoutLaws.{lent-with, lent-node}
-use Rattle.node.specs.Entry.{countOf}
-use Rattle.node.specs.Change.{removed}
+use Rattle.words.specs.Laws.Layout.{lent-with, lent-node}
+use Rattle.node.specs.Entry.{entryCount}
+use Rattle.node.specs.Inner.Change.{removed}
 use borrow.Author.Needs.{needs}
 use Rattle.node.proofs.change_at.remove_at.Statement.{statement}
 use Rattle.node.proofs.change_at.remove_at.Tie as tie
@@ -27,7 +27,7 @@ part-remove-end c = search needs
 remove-requires : tie.Need-remove-requires
 remove-requires c κs =
     let a = c .before .before .args in
-    lent-with (λ n. a .k < countOf n) (a .t .now) (a .i) (c .before .node-start .result) (search needs) (search needs) (search needs)
+    lent-with (λ n. a .k < entryCount n) (a .t .now) (a .i) (c .before .node-start .result) (search needs) (search needs) (search needs)
 
 same-length : tie.Need-same-length
 same-length c = search needs

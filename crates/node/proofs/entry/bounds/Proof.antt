@@ -1,6 +1,6 @@
 use mathlib.Core.Path.{sym, _∙_}
 use Rattle.node.specs.Entry.{boundsOf}
-use Rattle.node.specs.EntryLaws.{entry-rows}
+use Rattle.node.specs.Laws.Entry.{entry-rows}
 use borrow.Author.Needs.{needs}
 use Rattle.node.proofs.entry.bounds.Statement.{statement}
 use Rattle.node.proofs.entry.bounds.Tie as tie

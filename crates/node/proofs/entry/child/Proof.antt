@@ -1,6 +1,6 @@
 use mathlib.Core.Path.{ap, _∙_}
 use Rattle.words.specs.Words.{natOf}
-use Rattle.whole.specs.Within.{word-back}
+use Rattle.whole.specs.Laws.Within.{word-back}
 use borrow.Author.Needs.{needs}
 use Rattle.node.proofs.entry.child.Statement.{statement}
 use Rattle.node.proofs.entry.child.Tie as tie

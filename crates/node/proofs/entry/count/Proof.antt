@@ -1,5 +1,5 @@
 use native.Mathlib.Omega.{arith}
-use Rattle.node.specs.Entry.{countOf}
+use Rattle.node.specs.Entry.{entryCount}
 use borrow.Author.Needs.{needs}
 use Rattle.node.proofs.entry.count.Statement.{statement}
 use Rattle.node.proofs.entry.count.Tie as tie
@@ -8,11 +8,11 @@ place-at-requires : tie.Need-place-at-requires
 place-at-requires c κs = search needs
 
 returns : tie.Need-returns
-unfolding countOf
+unfolding entryCount
 returns c = omega arith
 
 returns-2 : tie.Need-returns-2
-unfolding countOf
+unfolding entryCount
 returns-2 c = omega arith
 
 pub count-spec : {M : Type 1} → statement M

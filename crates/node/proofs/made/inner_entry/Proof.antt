@@ -1,9 +1,9 @@
 use mathlib.Core.List.{[]}
 use lib.ListN.{getD}
 use mir.Syntax.{w32}
-use Rattle.whole.specs.Within.{back, read-at, word-back}
+use Rattle.whole.specs.Laws.Within.{back, read-at, word-back}
 use Rattle.words.specs.Words.{rowAt}
-use Rattle.node.specs.Made.{innerEntry}
+use Rattle.node.specs.Inner.Made.{innerEntry}
 use borrow.Author.Needs.{needs}
 use Rattle.node.proofs.made.inner_entry.Statement.{statement}
 use Rattle.node.proofs.made.inner_entry.Tie as tie

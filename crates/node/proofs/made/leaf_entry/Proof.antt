@@ -1,8 +1,8 @@
 use mathlib.Core.Path.{_≡_}
 use mir.Syntax.{w32}
 use mir.Val.{toZ, ofZ}
-use Rattle.whole.specs.Within.{back}
-use Rattle.node.specs.Made.{leafEntry}
+use Rattle.whole.specs.Laws.Within.{back}
+use Rattle.node.specs.Inner.Made.{leafEntry}
 use Rattle.node.proofs.made.leaf_entry.Statement.{statement}
 use Rattle.node.proofs.made.leaf_entry.Tie as tie
 

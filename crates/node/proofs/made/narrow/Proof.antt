@@ -1,4 +1,4 @@
-use Rattle.whole.specs.Within.{back, fits, read32}
+use Rattle.whole.specs.Laws.Within.{back, fits, read32}
 use Rattle.node.proofs.made.narrow.Statement.{statement}
 use Rattle.node.proofs.made.narrow.Tie as tie
 

@@ -1,9 +1,9 @@
 use mathlib.Core.Path.{_≡_}
 use lib.ListN.{length}
 use mir.Syntax.{w64}
-use Rattle.whole.specs.Within.{read-at, widen, word-back}
+use Rattle.whole.specs.Laws.Within.{read-at, widen, word-back}
 use Rattle.words.specs.Words.{rowAt}
-use Rattle.words.specs.WordLaws.{rowAt-whole}
+use Rattle.words.specs.Laws.Words.{rowAt-whole}
 use borrow.Author.Needs.{needs}
 use Rattle.node.proofs.made.narrow_row.Statement.{statement}
 use Rattle.node.proofs.made.narrow_row.Tie as tie

@@ -1,9 +1,9 @@
 use mathlib.Core.Path.{_≡_}
-use Rattle.whole.specs.Within.{back, word-back}
+use Rattle.whole.specs.Laws.Within.{back, word-back}
 use Rattle.node.specs.Entry.{entriesOf}
 use Rattle.node.specs.WorkedOut.{hullOn}
-use Rattle.node.specs.Made.{workedOut}
-use Rattle.node.specs.MadeLaws.{hullOn-kept}
+use Rattle.node.specs.Inner.Made.{workedOut}
+use Rattle.node.specs.Laws.Made.{hullOn-kept}
 use borrow.Author.Needs.{needs}
 use Rattle.node.proofs.made.work_out.Statement.{statement}
 use Rattle.node.proofs.made.work_out.Tie as tie

@@ -5,9 +5,10 @@ use lib.ListN.{getD}
 use mir.Syntax.{w32, w64}
 use mir.Val.{toZ, ofZ}
 use borrow.Author.Needs.{needs}
-use Rattle.whole.specs.Within.{Within, any-in, add-in, mul-in, widen, fits, back, read-at, read64}
-use Rattle.track.specs.Numbers.{minute-in}
-use Rattle.node.specs.Pass.{column-edge, column-velocity}
+use Rattle.whole.specs.Within.{Within}
+use Rattle.whole.specs.Laws.Within.{any-in, add-in, mul-in, widen, fits, back, read-at, read64}
+use Rattle.track.specs.Laws.Numbers.{minute-in}
+use Rattle.node.specs.Laws.Pass.{column-edge, column-velocity}
 use Rattle.node.proofs.worked.column_at.Statement.{statement}
 use Rattle.node.proofs.worked.column_at.Tie as tie
 

@@ -4,15 +4,17 @@ use native.Mathlib.Omega.{arith}
 use mir.Syntax.{w32, w64}
 use mir.Val.{toZ}
 use borrow.Author.Needs.{needs}
-use Rattle.whole.specs.Within.{Within, back, lit-in, read64}
+use Rattle.whole.specs.Within.{Within}
+use Rattle.whole.specs.Laws.Within.{back, lit-in, read64}
 use Rattle.words.specs.Layout.{fullNode}
-use Rattle.node.specs.EntryLaws.{count-fits}
-use Rattle.node.specs.Pass.{outer, readingOf, Passed, passed-none, passed-first, passed-next, passed-all, outer-in}
+use Rattle.node.specs.Laws.Entry.{count-fits}
+use Rattle.node.specs.Inner.Pass.{outer, readingOf}
+use Rattle.node.specs.Laws.Pass.{EntriesPassed, passed-none, passed-first, passed-next, passed-all, outer-in}
 use Rattle.node.proofs.worked.extreme.Statement.{statement}
 use Rattle.node.proofs.worked.extreme.Tie as tie
 
 abbrev Inv-loop : tie.InvT-loop
-Inv-loop node leaf axis column stamp n found₀ k₀ found k = Passed (outer column) (readingOf leaf axis column (toZ w32 stamp)) node k (toZ w64 found) × Within (2 ^ 42) (toZ w64 found)
+Inv-loop node leaf axis column stamp n found₀ k₀ found k = EntriesPassed (outer column) (readingOf leaf axis column (toZ w32 stamp)) node k (toZ w64 found) × Within (2 ^ 42) (toZ w64 found)
 
 abbrev μ-loop : tie.MeasureT-loop
 μ-loop node leaf axis column stamp n found₀ k₀ found k = n - k

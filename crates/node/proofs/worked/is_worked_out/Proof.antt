@@ -6,10 +6,11 @@ use lib.IntN.{ℤ}
 use mir.Syntax.{Width, w32}
 use mir.Val.{SFits, toZ, ofZ}
 use borrow.Author.Needs.{needs}
-use Rattle.whole.specs.Tells.{Tells, tells-false, tells-as, passed-not, failed-not}
-use Rattle.whole.specs.Within.{bits-eq}
+use Rattle.whole.specs.Tells.{Tells}
+use Rattle.whole.specs.Laws.Tells.{tells-false, tells-as, passed-not, failed-not}
+use Rattle.whole.specs.Laws.Within.{bits-eq}
 use Rattle.words.specs.Layout.{entryAt}
-use Rattle.whole.specs.Within.{word-back}
+use Rattle.whole.specs.Laws.Within.{word-back}
 use Rattle.node.specs.Entry.{Entry, entriesOf, stampOf, untilOf}
 use Rattle.node.specs.WorkedOut.{rowOf, hullOn, latestOf}
 use Rattle.node.proofs.worked.is_worked_out.Statement.{statement}

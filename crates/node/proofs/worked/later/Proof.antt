@@ -1,4 +1,4 @@
-use Rattle.whole.specs.Within.{back}
+use Rattle.whole.specs.Laws.Within.{back}
 use Rattle.track.specs.Hull.{greater}
 use Rattle.node.proofs.worked.later.Statement.{statement}
 use Rattle.node.proofs.worked.later.Tie as tie

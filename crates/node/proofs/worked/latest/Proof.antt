@@ -4,16 +4,16 @@ use native.Mathlib.Omega.{arith}
 use mir.Syntax.{w32}
 use mir.Val.{toZ}
 use borrow.Author.Needs.{needs}
-use Rattle.whole.specs.Within.{word-back}
+use Rattle.whole.specs.Laws.Within.{word-back}
 use Rattle.track.specs.Hull.{greater}
 use Rattle.node.specs.Entry.{untilOf}
-use Rattle.node.specs.EntryLaws.{count-fits}
-use Rattle.node.specs.Pass.{Passed, passed-none, passed-first, passed-next, passed-all, latest-pass}
+use Rattle.node.specs.Laws.Entry.{count-fits}
+use Rattle.node.specs.Laws.Pass.{EntriesPassed, passed-none, passed-first, passed-next, passed-all, latest-pass}
 use Rattle.node.proofs.worked.latest.Statement.{statement}
 use Rattle.node.proofs.worked.latest.Tie as tie
 
 abbrev Inv-loop : tie.InvT-loop
-Inv-loop node leaf n found₀ k₀ found k = Passed greater (untilOf leaf) node k (toZ w32 found)
+Inv-loop node leaf n found₀ k₀ found k = EntriesPassed greater (untilOf leaf) node k (toZ w32 found)
 
 abbrev μ-loop : tie.MeasureT-loop
 μ-loop node leaf n found₀ k₀ found k = n - k

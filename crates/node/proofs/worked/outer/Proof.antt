@@ -1,8 +1,8 @@
 use mathlib.Core.Path.{_≡_}
 use mir.Syntax.{w64}
 use mir.Val.{toZ, ofZ}
-use Rattle.whole.specs.Within.{back}
-use Rattle.node.specs.Pass.{outer-low, outer-high}
+use Rattle.whole.specs.Laws.Within.{back}
+use Rattle.node.specs.Laws.Pass.{outer-low, outer-high}
 use Rattle.node.proofs.worked.outer.Statement.{statement}
 use Rattle.node.proofs.worked.outer.Tie as tie
 

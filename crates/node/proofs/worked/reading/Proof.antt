@@ -1,5 +1,5 @@
 use borrow.Author.Needs.{needs}
-use Rattle.whole.specs.Within.{back, read64}
+use Rattle.whole.specs.Laws.Within.{back, read64}
 use Rattle.node.proofs.worked.reading.Statement.{statement}
 use Rattle.node.proofs.worked.reading.Tie as tie
 

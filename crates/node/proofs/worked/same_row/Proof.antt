@@ -10,8 +10,8 @@ use mir.Syntax.{w32, w64}
 use mir.Val.{ofZ}
 use borrow.Author.Count.{below-more}
 use borrow.Author.Needs.{needs}
-use Rattle.whole.specs.Tells.{tells-true, tells-false}
-use Rattle.whole.specs.Within.{any-in, fits, read-at, bits-eq}
+use Rattle.whole.specs.Laws.Tells.{tells-true, tells-false}
+use Rattle.whole.specs.Laws.Within.{any-in, fits, read-at, bits-eq}
 use Rattle.node.proofs.worked.same_row.Statement.{statement}
 use Rattle.node.proofs.worked.same_row.Tie as tie
 

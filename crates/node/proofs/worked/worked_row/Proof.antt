@@ -4,10 +4,12 @@ use lib.IntN.{ℤ, _*ℤ_}
 use mir.Syntax.{w64}
 use mir.Val.{toZ, ofZ}
 use borrow.Author.Needs.{needs}
-use Rattle.whole.specs.Within.{Within, back, read64, fits, mul-in, sub-in}
-use Rattle.track.specs.Numbers.{minute-in}
+use Rattle.whole.specs.Within.{Within}
+use Rattle.whole.specs.Laws.Within.{back, read64, fits, mul-in, sub-in}
+use Rattle.track.specs.Laws.Numbers.{minute-in}
 use Rattle.node.specs.Entry.{entriesOf}
-use Rattle.node.specs.Pass.{extremeOf, hull-passes}
+use Rattle.node.specs.Inner.Pass.{extremeOf}
+use Rattle.node.specs.Laws.Pass.{hull-passes}
 use Rattle.node.proofs.worked.worked_row.Statement.{statement}
 use Rattle.node.proofs.worked.worked_row.Tie as tie
 

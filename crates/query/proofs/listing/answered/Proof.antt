@@ -1,6 +1,6 @@
-use Rattle.whole.specs.Tells.{passed-not, failed-not}
+use Rattle.whole.specs.Laws.Tells.{passed-not, failed-not}
 use Rattle.table.specs.Sound.{Sound}
-use Rattle.query.specs.Answering.{can-ask, answers-unsound, answers-taken, answers-refused}
+use Rattle.query.specs.Laws.Answering.{can-ask, answers-unsound, answers-taken, answers-refused}
 use borrow.Author.Needs.{needs}
 use Rattle.query.proofs.listing.answered.Statement.{statement}
 use Rattle.query.proofs.listing.answered.Tie as tie

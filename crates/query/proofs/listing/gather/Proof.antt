@@ -3,15 +3,15 @@ use Prim.Native.Nat.{_≤_}
 use lib.ListN.{length}
 use lib.Seq.{length-take-le}
 use Rattle.table.specs.Header.{root, height, entriesAt}
-use Rattle.query.specs.Opening.{Opens}
-use Rattle.query.specs.Gathering.{onlyRoot, can-open-root, hits-inside, gathered-sorted}
+use Rattle.query.specs.Inner.Opening.{OpensEntries}
+use Rattle.query.specs.Laws.Gathering.{onlyRoot, can-open-root, hits-inside, gathered-sorted}
 use borrow.Author.Needs.{needs}
 use Rattle.query.proofs.listing.gather.Statement.{statement}
 use Rattle.query.proofs.listing.gather.Tie as tie
 
 -- what the walk from the root leaves
 opens : (c : tie.After-open-entries) → let a = c .before .before .before .before .before .args in
-    Opens (entriesAt (a .t .now)) (a .k) (height (a .t .now)) (entriesAt (a .t .now) (root (a .t .now))) (a .keys .now) onlyRoot (c .open-entries .result) (c .open-entries .last .1 .1 .1 .1 .1 .0)
+    OpensEntries (entriesAt (a .t .now)) (a .k) (height (a .t .now)) (entriesAt (a .t .now) (root (a .t .now))) (a .keys .now) onlyRoot (c .open-entries .result) (c .open-entries .last .1 .1 .1 .1 .1 .0)
 opens c = rw (c .before .before .before .place-at .ensures .0, c .before .before .place-at2 .ensures .0) at (c .open-entries .ensures)
 
 inside : (c : tie.After-open-entries) → c .open-entries .result .hits ≤ length (c .open-entries .last .1 .1 .1 .1 .1 .0)

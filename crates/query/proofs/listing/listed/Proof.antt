@@ -1,4 +1,4 @@
-use Rattle.query.specs.Answering.{can-write, answers-too-many, answers-listed}
+use Rattle.query.specs.Laws.Answering.{can-write, answers-too-many, answers-listed}
 use borrow.Author.Needs.{needs}
 use Rattle.query.proofs.listing.listed.Statement.{statement}
 use Rattle.query.proofs.listing.listed.Tie as tie

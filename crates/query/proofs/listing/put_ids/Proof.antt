@@ -2,13 +2,13 @@ use Prim.Native.Nat.{_-_, _^_, _<_}
 use lib.ListN.{getD}
 use mir.Syntax.{w32}
 use borrow.Author.Needs.{needs}
-use Rattle.whole.specs.Within.{read-nat}
-use Rattle.query.specs.Writing.{Written, written-none, written-next, written-all}
+use Rattle.whole.specs.Laws.Within.{read-nat}
+use Rattle.query.specs.Laws.IdsWritten.{IdsWritten, written-none, written-next, written-all}
 use Rattle.query.proofs.listing.put_ids.Statement.{statement}
 use Rattle.query.proofs.listing.put_ids.Tie as tie
 
 abbrev Inv-loop : tie.InvT-loop
-Inv-loop list₀ keys m j₀ list j = Written list₀ keys list m j
+Inv-loop list₀ keys m j₀ list j = IdsWritten list₀ keys list m j
 
 abbrev μ-loop : tie.MeasureT-loop
 μ-loop list₀ keys m j₀ list j = m - j

@@ -5,14 +5,15 @@ use lib.ListN.{length, length-set}
 use borrow.Author.Needs.{needs}
 use borrow.Fn.Kinds.{In}
 use borrow.Fn.PlainCycle.{Measures, is, falls, and}
-use Rattle.whole.specs.Tells.{Tells, passed-not, failed-not}
+use Rattle.whole.specs.Tells.{Tells}
+use Rattle.whole.specs.Laws.Tells.{passed-not, failed-not}
 use Rattle.words.specs.Layout.{nodeAt, entryAt, fullNode}
-use Rattle.node.specs.Entry.{countOf, childOf}
-use Rattle.node.specs.EntryLaws.{count-fits}
-use Rattle.table.specs.Tree.{isLeaf}
-use Rattle.table.specs.Scan.{keyOf}
+use Rattle.node.specs.Entry.{entryCount, childOf}
+use Rattle.node.specs.Laws.Entry.{count-fits}
+use Rattle.table.specs.SoundTree.{isLeaf}
+use Rattle.table.specs.Inner.Scan.{keyOf}
 use Rattle.query.specs.Opened.{EntryMeets}
-use Rattle.query.specs.Opening.{opens-none, opens-miss, opens-hit, opens-child, none-left, one-more, can-test, can-miss, hit-room, can-hit, node-fits, can-child, can-after}
+use Rattle.query.specs.Laws.Opening.{opens-none, opens-miss, opens-hit, opens-child, none-left, one-more, can-test, can-miss, hit-room, can-hit, node-fits, can-child, can-after}
 use Rattle.query.proofs.opening.open_entries.Reads as reads
 use Rattle.query.proofs.opening.open_entries.Kinds as kinds
 use Rattle.query.proofs.opening.+open_entries.Lts-open_entries as lts
@@ -55,10 +56,10 @@ module _ (t : ℕ) where
   node-is : (c : lts.After-node-at (calls t) (entered t) reads.Post) → let a = c .before .before .args in c .node-at .result .now ≡ nodeAt (a .t .now) (a .i)
   node-is c = c .node-at .ensures
 
-  count-is : (c : lts.After-count (calls t) (entered t) reads.Post) → let a = c .before .before .before .args in c .count .result ≡ countOf (nodeAt (a .t .now) (a .i))
-  count-is c = c .count .ensures ∙ ap countOf (node-is (c .before))
+  count-is : (c : lts.After-count (calls t) (entered t) reads.Post) → let a = c .before .before .before .args in c .count .result ≡ entryCount (nodeAt (a .t .now) (a .i))
+  count-is c = c .count .ensures ∙ ap entryCount (node-is (c .before))
 
-  low : (c : lts.Else1 (calls t) (entered t) reads.Post) → let a = c .before .before .before .before .args in a .from < countOf (nodeAt (a .t .now) (a .i))
+  low : (c : lts.Else1 (calls t) (entered t) reads.Post) → let a = c .before .before .before .before .args in a .from < entryCount (nodeAt (a .t .now) (a .i))
   low c = omega (arith, c .if1 .left, count-is (c .before))
 
   in-node : (c : lts.Else1 (calls t) (entered t) reads.Post) → c .before .before .before .before .args .from < fullNode

@@ -2,11 +2,11 @@ use mathlib.Core.Path.{_≡_, _∙_}
 use mir.Syntax.{w32}
 use mir.Val.{toZ, ofZ}
 use Rattle.words.specs.Layout.{entryAt}
-use Rattle.whole.specs.Within.{word-back}
+use Rattle.whole.specs.Laws.Within.{word-back}
 use Rattle.track.specs.Numbers.{IsMinute}
 use Rattle.node.specs.Entry.{boundsOf, untilOf}
-use Rattle.table.specs.Tree.{isLeaf}
-use Rattle.table.specs.ScanParts.{leaf-test}
+use Rattle.table.specs.SoundTree.{isLeaf}
+use Rattle.table.specs.Laws.ScanParts.{leaf-test}
 use borrow.Author.Needs.{needs}
 use Rattle.query.proofs.opening.entry_meets.Statement.{statement}
 use Rattle.query.proofs.opening.entry_meets.Tie as tie

@@ -1,6 +1,6 @@
 use mathlib.Core.Path.{ap, _∙_}
 use mir.Syntax.{w32}
-use Rattle.whole.specs.Within.{back}
+use Rattle.whole.specs.Laws.Within.{back}
 use Rattle.words.specs.Words.{natOf}
 use Rattle.track.specs.declared.cell.Cell.{Cell}
 use borrow.Author.Needs.{needs}

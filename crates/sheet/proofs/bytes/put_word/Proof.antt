@@ -1,8 +1,8 @@
 use native.Mathlib.Omega.{arith}
 use lib.ListN.{length-set}
 use borrow.Author.Needs.{needs}
-use Rattle.whole.specs.Within.{back}
-use Rattle.sheet.specs.BytesLaws.{word-stored}
+use Rattle.whole.specs.Laws.Within.{back}
+use Rattle.sheet.specs.Laws.Bytes.{word-stored}
 use Rattle.sheet.proofs.bytes.put_word.Statement.{statement}
 use Rattle.sheet.proofs.bytes.put_word.Tie as tie
 

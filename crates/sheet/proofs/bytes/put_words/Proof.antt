@@ -1,9 +1,9 @@
 use mir.Syntax.{w32}
-use Rattle.whole.specs.Within.{read-at}
+use Rattle.whole.specs.Laws.Within.{read-at}
 use borrow.Author.Needs.{needs}
 use Prim.Native.Nat.{_-_}
 use lib.ListN.{length}
-use Rattle.sheet.specs.PutWords.{WordsPut, none-put, word-put, all-put}
+use Rattle.sheet.specs.Laws.PutWords.{WordsPut, none-put, word-put, all-put}
 use Rattle.sheet.proofs.bytes.put_words.Statement.{statement}
 use Rattle.sheet.proofs.bytes.put_words.Tie as tie
 

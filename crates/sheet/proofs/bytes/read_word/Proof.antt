@@ -1,7 +1,7 @@
 use mathlib.Core.Path.{sym, _∙_}
 use borrow.Author.Needs.{needs}
-use Rattle.whole.specs.Within.{word-back}
-use Rattle.sheet.specs.BytesLaws.{word-past, word-read}
+use Rattle.whole.specs.Laws.Within.{word-back}
+use Rattle.sheet.specs.Laws.Bytes.{word-past, word-read}
 use Rattle.sheet.proofs.bytes.read_word.Statement.{statement}
 use Rattle.sheet.proofs.bytes.read_word.Tie as tie
 

@@ -1,8 +1,8 @@
 use mathlib.Core.Path.{_∙_}
 use Prim.Native.Nat.{_<_}
 use borrow.Author.Needs.{needs}
-use Rattle.whole.specs.Within.{back}
-use Rattle.sheet.specs.Complement.{less-count, upper-count, upper-fits, upper-is}
+use Rattle.whole.specs.Laws.Within.{back}
+use Rattle.sheet.specs.Laws.Complement.{less-count, upper-count, upper-fits, upper-is}
 use Rattle.sheet.proofs.bytes.signed.Statement.{statement}
 use Rattle.sheet.proofs.bytes.signed.Tie as tie
 

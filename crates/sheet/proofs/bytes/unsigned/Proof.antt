@@ -4,9 +4,9 @@ use lib.IntN.{ℤ, pos, negsuc, _-ℤ_}
 use lib.Signed.{_≤ℤ_, _<ℤ_, mag, yes-nonNeg}
 use mir.Syntax.{w32}
 use mir.Val.{toZ, ofZ}
-use Rattle.whole.specs.Within.{back}
-use Rattle.whole.specs.Order.{ltZ-true, ltZ-false}
-use Rattle.sheet.specs.Complement.{less-negative, complement-negative, complement-count, complement-fits, fits-turned}
+use Rattle.whole.specs.Laws.Within.{back}
+use Rattle.whole.specs.Laws.Order.{ltZ-true, ltZ-false}
+use Rattle.sheet.specs.Laws.Complement.{less-negative, complement-negative, complement-count, complement-fits, fits-turned}
 use Rattle.sheet.proofs.bytes.unsigned.Statement.{statement}
 use Rattle.sheet.proofs.bytes.unsigned.Tie as tie
 

@@ -1,5 +1,5 @@
 use mathlib.Core.Path.{ap, _∙_}
-use Rattle.whole.specs.Within.{word-back}
+use Rattle.whole.specs.Laws.Within.{word-back}
 use Rattle.words.specs.Words.{natOf}
 use borrow.Author.Needs.{needs}
 use Rattle.sheet.proofs.judge.count_of.Statement.{statement}

@@ -2,9 +2,9 @@ use mathlib.Core.Path.{_≡_}
 use lib.Signed.{clashℤ, ltZ-yes}
 use mir.Syntax.{w32}
 use mir.Val.{toZ, ofZ}
-use Rattle.whole.specs.Order.{ltZ-true, ltZ-false}
-use Rattle.whole.specs.Tells.{tells-false, passed-not, failed-not}
-use Rattle.whole.specs.Within.{back}
+use Rattle.whole.specs.Laws.Order.{ltZ-true, ltZ-false}
+use Rattle.whole.specs.Laws.Tells.{tells-false, passed-not, failed-not}
+use Rattle.whole.specs.Laws.Within.{back}
 use borrow.Author.Needs.{needs}
 use Rattle.sheet.proofs.judge.follows.Statement.{statement}
 use Rattle.sheet.proofs.judge.follows.Tie as tie

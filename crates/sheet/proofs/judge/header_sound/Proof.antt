@@ -4,10 +4,11 @@ use lib.IntN.{pos}
 use lib.ListN.{length}
 use mir.Syntax.{w32}
 use mir.Val.{toZ, ofZ}
-use Rattle.whole.specs.Tells.{Tells, tells-false, tells-as, passed-not, failed-not}
-use Rattle.whole.specs.Within.{word-back}
+use Rattle.whole.specs.Tells.{Tells}
+use Rattle.whole.specs.Laws.Tells.{tells-false, tells-as, passed-not, failed-not}
+use Rattle.whole.specs.Laws.Within.{word-back}
 use Rattle.track.specs.Numbers.{IsMinute}
-use Rattle.sheet.specs.Sheet.{headerBytes, totalFor, countWord, offsetWord, clockOf, totalWord, countOf}
+use Rattle.sheet.specs.Sheet.{headerBytes, totalFor, countWord, offsetWord, clockOf, totalWord, recordCount}
 use Rattle.sheet.specs.WellFormed.{IsCountTo}
 use borrow.Author.Needs.{needs}
 use Rattle.sheet.proofs.judge.header_sound.Statement.{statement}
@@ -34,7 +35,7 @@ told-offset c = simp (offset-is (c .before)) at (c .is-number .ensures)
 told-clock : (c : tie.After-is-minute) → let s = c .before .before .before .before .before .before .before .before .before .before in Tells (c .is-minute .result) (IsMinute (clockOf (s .args .bytes .now)))
 told-clock c = simp (clock-is (c .before)) at (c .is-minute .ensures)
 
-told-total : (c : tie.After-is-number2) → let bytes = c .before .before .before .before .before .before .before .before .before .before .before .before .before .before .before .args .bytes .now in Tells (c .is-number2 .result) (totalWord bytes ≡ pos (totalFor (countOf bytes)))
+told-total : (c : tie.After-is-number2) → let bytes = c .before .before .before .before .before .before .before .before .before .before .before .before .before .before .before .args .bytes .now in Tells (c .is-number2 .result) (totalWord bytes ≡ pos (totalFor (recordCount bytes)))
 told-total c = simp (total-is (c .before .before .before), c .before .total-for .ensures, c .before .before .count-of .ensures .0) at (c .is-number2 .ensures)
 
 told-given : (c : tie.After-is-number3) → let bytes = c .before .before .before .before .before .before .before .before .before .before .before .before .before .before .before .before .before .args .bytes .now in Tells (c .is-number3 .result) (totalWord bytes ≡ pos (length bytes))

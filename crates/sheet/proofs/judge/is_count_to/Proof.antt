@@ -1,8 +1,8 @@
 use lib.Signed.{clashℤ}
-use Rattle.whole.specs.Within.{back}
-use Rattle.whole.specs.Order.{ltZ-true, ltZ-false}
-use Rattle.whole.specs.Tells.{tells-false}
-use Rattle.sheet.specs.HeaderLaws.{count-tells}
+use Rattle.whole.specs.Laws.Within.{back}
+use Rattle.whole.specs.Laws.Order.{ltZ-true, ltZ-false}
+use Rattle.whole.specs.Laws.Tells.{tells-false}
+use Rattle.sheet.specs.Laws.SheetHeader.{count-tells}
 use borrow.Author.Needs.{needs}
 use Rattle.sheet.proofs.judge.is_count_to.Statement.{statement}
 use Rattle.sheet.proofs.judge.is_count_to.Tie as tie

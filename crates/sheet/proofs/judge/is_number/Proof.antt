@@ -1,7 +1,7 @@
-use Rattle.whole.specs.Within.{back}
-use Rattle.whole.specs.Order.{ltZ-true, ltZ-false}
-use Rattle.whole.specs.Tells.{tells-false}
-use Rattle.sheet.specs.HeaderLaws.{no-number, number-tells}
+use Rattle.whole.specs.Laws.Within.{back}
+use Rattle.whole.specs.Laws.Order.{ltZ-true, ltZ-false}
+use Rattle.whole.specs.Laws.Tells.{tells-false}
+use Rattle.sheet.specs.Laws.SheetHeader.{no-number, number-tells}
 use borrow.Author.Needs.{needs}
 use Rattle.sheet.proofs.judge.is_number.Statement.{statement}
 use Rattle.sheet.proofs.judge.is_number.Tie as tie

@@ -1,7 +1,7 @@
 use mathlib.Core.Path.{_∙_}
-use Rattle.whole.specs.Tells.{passed-not, failed-not}
-use Rattle.whole.specs.Within.{word-back}
-use Rattle.sheet.specs.HeaderLaws.{bad-header, bad-record, well-formed}
+use Rattle.whole.specs.Laws.Tells.{passed-not, failed-not}
+use Rattle.whole.specs.Laws.Within.{word-back}
+use Rattle.sheet.specs.Laws.SheetHeader.{bad-header, bad-record, well-formed}
 use borrow.Author.Needs.{needs}
 use Rattle.sheet.proofs.judge.judge.Statement.{statement}
 use Rattle.sheet.proofs.judge.judge.Tie as tie

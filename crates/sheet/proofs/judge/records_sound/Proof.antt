@@ -4,21 +4,23 @@ use Prim.Native.Nat.{_-_, _<_}
 use native.Mathlib.Omega.{arith}
 use mir.Syntax.{w32}
 use mir.Val.{toZ, ofZ}
-use Rattle.whole.specs.Tells.{Tells, passed-not, failed-not}
-use Rattle.whole.specs.Within.{word-back, read32}
-use Rattle.sheet.specs.Sheet.{clockOf, countOf, cellAt}
-use Rattle.track.specs.Numbers.{identifier-in}
-use Rattle.sheet.specs.Records.{Follows, Passed, none-passed, one-passed, one-failed, all-passed}
+use Rattle.whole.specs.Tells.{Tells}
+use Rattle.whole.specs.Laws.Tells.{passed-not, failed-not}
+use Rattle.whole.specs.Laws.Within.{word-back, read32}
+use Rattle.sheet.specs.Sheet.{clockOf, recordCount, cellAt}
+use Rattle.track.specs.Laws.Numbers.{identifier-in}
+use Rattle.sheet.specs.Inner.Records.{Follows}
+use Rattle.sheet.specs.Laws.Records.{RecordsPassed, none-passed, one-passed, one-failed, all-passed}
 use Rattle.sheet.proofs.judge.records_sound.Statement.{statement}
 use Rattle.sheet.proofs.judge.records_sound.Tie as tie
 
 abbrev Inv-loop : tie.InvT-loop
-Inv-loop bytes n clock last₀ k₀ last k = Passed bytes (toZ w32 last) k
+Inv-loop bytes n clock last₀ k₀ last k = RecordsPassed bytes (toZ w32 last) k
 
 abbrev μ-loop : tie.MeasureT-loop
 μ-loop bytes n clock last₀ k₀ last k = n - k
 
-low : (c : tie.In-loop Inv-loop μ-loop) → c .before .loop .k < countOf (c .before .before .before .before .before .args .bytes .now)
+low : (c : tie.In-loop Inv-loop μ-loop) → c .before .loop .k < recordCount (c .before .before .before .before .before .args .bytes .now)
 low c = omega (arith, c .before .before .before .count-of .ensures .0)
 
 clock-is : (c : tie.After-read-word Inv-loop μ-loop) → toZ w32 (ofZ w32 (c .read-word .result)) ≡ clockOf (c .before .before .before .args .bytes .now)

@@ -1,7 +1,7 @@
 use mathlib.Core.Path.{sym}
-use Rattle.whole.specs.Within.{word-back}
+use Rattle.whole.specs.Laws.Within.{word-back}
 use Rattle.sheet.specs.Sheet.{cellFrom}
-use Rattle.sheet.specs.SheetLaws.{cell-past}
+use Rattle.sheet.specs.Laws.Sheet.{cell-past}
 use borrow.Author.Needs.{needs}
 use Rattle.sheet.proofs.record.cell_at.Statement.{statement}
 use Rattle.sheet.proofs.record.cell_at.Tie as tie

@@ -1,7 +1,7 @@
 use mathlib.Core.Path.{_≡_}
 use mir.Syntax.{w32}
 use mir.Val.{toZ, ofZ}
-use Rattle.whole.specs.Within.{back}
+use Rattle.whole.specs.Laws.Within.{back}
 use Rattle.sheet.proofs.record.cell_numbers.Statement.{statement}
 use Rattle.sheet.proofs.record.cell_numbers.Tie as tie
 

@@ -2,7 +2,7 @@ use mathlib.Core.Path.{_≡_, ap, _∙_}
 use lib.IntN.{pos}
 use mir.Syntax.{w32}
 use mir.Val.{toZ, ofZ}
-use Rattle.whole.specs.Within.{back, word-back}
+use Rattle.whole.specs.Laws.Within.{back, word-back}
 use Rattle.sheet.specs.Sheet.{headerBytes, totalFor}
 use borrow.Author.Needs.{needs}
 use Rattle.sheet.proofs.record.put_header.Statement.{statement}

@@ -1,7 +1,8 @@
 use Prim.Native.Nat.{_-_, _≤_}
 use native.Mathlib.Omega.{arith}
 use borrow.Author.Needs.{needs}
-use Rattle.table.specs.FreshLaws.{Freed, freed-none, freed-more}
+use Rattle.table.specs.Inner.FreshMade.{Freed}
+use Rattle.table.specs.Laws.FreshMade.{freed-none, freed-more}
 use Rattle.table.proofs.fresh.free_all.Statement.{statement}
 use Rattle.table.proofs.fresh.free_all.Tie as tie
 

@@ -4,12 +4,13 @@ use Prim.Native.Nat.{_≤_}
 use native.Mathlib.Omega.{arith}
 use borrow.Author.Needs.{needs}
 use lib.ListN.{length}
-use Rattle.whole.specs.Within.{back}
-use Rattle.whole.specs.Tells.{Tells, passed-not, failed-not}
+use Rattle.whole.specs.Laws.Within.{back}
+use Rattle.whole.specs.Tells.{Tells}
+use Rattle.whole.specs.Laws.Tells.{passed-not, failed-not}
 use Rattle.words.specs.Words.{natOf}
-use Rattle.track.specs.Refusals.{not-zero}
+use Rattle.track.specs.Laws.Refusals.{not-zero}
 use Rattle.table.specs.Header.{IsCapacity, wordsFor}
-use Rattle.table.specs.HeaderLaws.{capacity-low}
+use Rattle.table.specs.Laws.Header.{capacity-low}
 use Rattle.table.proofs.fresh.fresh.Statement.{statement}
 use Rattle.table.proofs.fresh.fresh.Tie as tie
 

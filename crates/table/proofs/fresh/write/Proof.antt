@@ -1,9 +1,9 @@
 use mathlib.Core.Path.{_≡_}
 use native.Mathlib.Omega.{arith}
 use borrow.Author.Needs.{needs}
-use Rattle.whole.specs.Within.{back}
+use Rattle.whole.specs.Laws.Within.{back}
 use Rattle.words.specs.Words.{natOf}
-use Rattle.table.specs.FreshLaws.{fresh-made}
+use Rattle.table.specs.Laws.FreshMade.{fresh-made}
 use Rattle.table.proofs.fresh.write.Statement.{statement}
 use Rattle.table.proofs.fresh.write.Tie as tie
 

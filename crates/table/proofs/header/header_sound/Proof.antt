@@ -5,11 +5,12 @@ use lib.ListN.{length}
 use lib.Signed.{leZ-yes}
 use mir.Syntax.{w32}
 use mir.Val.{toZ, ofZ}
-use Rattle.whole.specs.Tells.{Tells, tells-false, passed-not, failed-not}
-use Rattle.whole.specs.Within.{word-back}
+use Rattle.whole.specs.Tells.{Tells}
+use Rattle.whole.specs.Laws.Tells.{tells-false, passed-not, failed-not}
+use Rattle.whole.specs.Laws.Within.{word-back}
 use Rattle.track.specs.Numbers.{IsMinute}
 use Rattle.table.specs.Header.{capacityWord, capacity, clock, rootWord, heightWord, IsCapacity, IsNode, wordsFor}
-use Rattle.table.specs.HeaderLaws.{capacity-low}
+use Rattle.table.specs.Laws.Header.{capacity-low}
 use borrow.Author.Needs.{needs}
 use Rattle.table.proofs.header.header_sound.Statement.{statement}
 use Rattle.table.proofs.header.header_sound.Tie as tie

@@ -1,7 +1,7 @@
-use Rattle.whole.specs.Within.{back}
-use Rattle.whole.specs.Order.{ltZ-true, ltZ-false}
-use Rattle.whole.specs.Tells.{tells-false}
-use Rattle.table.specs.HeaderLaws.{no-capacity, capacity-tells}
+use Rattle.whole.specs.Laws.Within.{back}
+use Rattle.whole.specs.Laws.Order.{ltZ-true, ltZ-false}
+use Rattle.whole.specs.Laws.Tells.{tells-false}
+use Rattle.table.specs.Laws.Header.{no-capacity, capacity-tells}
 use borrow.Author.Needs.{needs}
 use Rattle.table.proofs.header.is_capacity.Statement.{statement}
 use Rattle.table.proofs.header.is_capacity.Tie as tie

@@ -1,12 +1,13 @@
 use mathlib.Core.Path.{_≡_, ap, _∙_}
 use native.Mathlib.Omega.{arith}
 use lib.Dec.{leb→le, le→leb}
-use Rattle.whole.specs.Tells.{Tells, tells-true, tells-false, passed-not, failed-not}
+use Rattle.whole.specs.Tells.{Tells}
+use Rattle.whole.specs.Laws.Tells.{tells-true, tells-false, passed-not, failed-not}
 use Rattle.words.specs.Layout.{nodeAt}
-use Rattle.node.specs.Entry.{IsCount, countWord, countOf}
-use Rattle.node.specs.EntryLaws.{length-entriesOf}
+use Rattle.node.specs.Entry.{IsCount, entryCountWord, entryCount}
+use Rattle.node.specs.Laws.Entry.{length-entriesOf}
 use Rattle.table.specs.Header.{root, entriesAt}
-use Rattle.table.specs.ScanParts.{node-in-table}
+use Rattle.table.specs.Laws.ScanParts.{node-in-table}
 use borrow.Author.Needs.{needs}
 use Rattle.table.proofs.header.root_sound.Statement.{statement}
 use Rattle.table.proofs.header.root_sound.Tie as tie
@@ -14,10 +15,10 @@ use Rattle.table.proofs.header.root_sound.Tie as tie
 root-is : (c : tie.After-node-at) → c .node-at .result .now ≡ nodeAt (c .before .before .args .t .now) (root (c .before .before .args .t .now))
 root-is c = c .node-at .ensures ∙ ap (nodeAt (c .before .before .args .t .now)) (c .before .place-at .ensures .0)
 
-told : (c : tie.After-is-counted) → let w = c .before .before .before .args .t .now in Tells (c .is-counted .result) (IsCount (countWord (nodeAt w (root w))))
+told : (c : tie.After-is-counted) → let w = c .before .before .before .args .t .now in Tells (c .is-counted .result) (IsCount (entryCountWord (nodeAt w (root w))))
 told c = simp (root-is (c .before)) at (c .is-counted .ensures)
 
-counted : (c : tie.Else1) → let w = c .before .before .before .before .args .t .now in IsCount (countWord (nodeAt w (root w)))
+counted : (c : tie.Else1) → let w = c .before .before .before .before .args .t .now in IsCount (entryCountWord (nodeAt w (root w)))
 counted c = passed-not (told (c .before)) (c .if1 .left)
 
 place-at-requires : tie.Need-place-at-requires
@@ -45,7 +46,7 @@ returns-3 : tie.Need-returns-3
 unfolding entriesAt
 returns-3 c =
     let w = c .before .before .before .before .before .before .before .args .t .now in
-    let n = c .count .ensures ∙ ap countOf (root-is (c .before .before .before .before .before)) in
+    let n = c .count .ensures ∙ ap entryCount (root-is (c .before .before .before .before .before)) in
     let l = length-entriesOf (nodeAt w (root w)) in
     record {
       sure = λ t. record { counted = counted (c .before .before .before); filled = λ h. omega (arith, leb→le 2 (c .count .result) t, n, l) };

@@ -4,11 +4,11 @@ use native.Mathlib.Omega.{arith}
 use mir.Syntax.{w32}
 use mir.Val.{toZ}
 use borrow.Author.Needs.{needs}
-use Rattle.whole.specs.Within.{back}
+use Rattle.whole.specs.Laws.Within.{back}
 use Rattle.words.specs.Layout.{fullNode}
-use Rattle.node.specs.Entry.{countOf}
-use Rattle.node.specs.EntryLaws.{count-fits}
-use Rattle.table.specs.Ready.{Left, ready-entered, left-none, left-all, left-untaken, left-taken, left-unentered, left-bad, left-passed}
+use Rattle.node.specs.Entry.{entryCount}
+use Rattle.node.specs.Laws.Entry.{count-fits}
+use Rattle.table.specs.Laws.Ready.{EntriesLeft, ready-entered, left-none, left-all, left-untaken, left-taken, left-unentered, left-bad, left-passed}
 use borrow.Fn.Kinds.{In}
 use borrow.Fn.PlainCycle.{Measures, is, falls, and}
 use Rattle.table.proofs.scan.pass.Reads as reads
@@ -48,10 +48,10 @@ calls t = (
 )
 
 abbrev Inv-loop : lts.InvT-loop
-Inv-loop t cells clock height node marks₀ keys₀ m n k₀ got₀ marks keys k got = Left t cells (toZ w32 clock) height node marks₀ keys₀ m k marks keys got
+Inv-loop t cells clock height node marks₀ keys₀ m n k₀ got₀ marks keys k got = EntriesLeft t cells (toZ w32 clock) height node marks₀ keys₀ m k marks keys got
 
 abbrev μ-loop : lts.MeasureT-loop
-μ-loop t cells clock height node marks₀ keys₀ m n k₀ got₀ marks keys k got = countOf n - k
+μ-loop t cells clock height node marks₀ keys₀ m n k₀ got₀ marks keys k got = entryCount n - k
 
 module _ (t : ℕ) where
   -- the entry that is tried lies in the node. Below, e is the place in the loop where k is known to be less than the count, d where the child is passed, a an arm of the branch

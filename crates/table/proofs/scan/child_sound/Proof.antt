@@ -1,12 +1,13 @@
 use mathlib.Core.Path.{_≡_, _∙_, ap}
 use mir.Syntax.{w32}
 use mir.Val.{toZ, ofZ}
-use Rattle.whole.specs.Tells.{Tells, tells-false, passed-not, failed-not}
+use Rattle.whole.specs.Tells.{Tells}
+use Rattle.whole.specs.Laws.Tells.{tells-false, passed-not, failed-not}
 use Rattle.words.specs.Layout.{entryAt, nodeAt}
-use Rattle.whole.specs.Within.{word-back}
-use Rattle.node.specs.Entry.{childWord, childOf, countOf}
+use Rattle.whole.specs.Laws.Within.{word-back}
+use Rattle.node.specs.Entry.{childWord, childOf, entryCount}
 use Rattle.table.specs.Header.{IsNode}
-use Rattle.table.specs.ScanParts.{child-tells, node-in-table}
+use Rattle.table.specs.Laws.ScanParts.{child-tells, node-in-table}
 use borrow.Author.Needs.{needs}
 use Rattle.table.proofs.scan.child_sound.Statement.{statement}
 use Rattle.table.proofs.scan.child_sound.Tie as tie
@@ -46,7 +47,7 @@ returns-2 : tie.Need-returns-2
 returns-2 c =
     let a = c .before .before .before .before .before .before .args in
     let node : c .before .node-at .result .now ≡ nodeAt (a .t .now) (childOf (entryAt (a .n .now) (a .k))) = c .before .node-at .ensures ∙ ap (nodeAt (a .t .now)) (child-is (c .before .before)) in
-    child-tells (a .t .now) (a .cells) (entryAt (a .n .now) (a .k)) (c .count .result) (is-in (c .before .before .before)) (c .count .ensures ∙ ap countOf node)
+    child-tells (a .t .now) (a .cells) (entryAt (a .n .now) (a .k)) (c .count .result) (is-in (c .before .before .before)) (c .count .ensures ∙ ap entryCount node)
 
 pub child-sound-spec : {M : Type 1} → statement M
 child-sound-spec =

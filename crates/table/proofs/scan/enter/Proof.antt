@@ -4,14 +4,15 @@ use lib.ListN.{getD, set}
 use native.Mathlib.Omega.{arith}
 use mir.Syntax.{w32}
 use mir.Val.{toZ, ofZ}
-use Rattle.whole.specs.Tells.{Tells, passed-not, failed-not}
-use Rattle.whole.specs.Within.{back}
+use Rattle.whole.specs.Tells.{Tells}
+use Rattle.whole.specs.Laws.Tells.{passed-not, failed-not}
+use Rattle.whole.specs.Laws.Within.{back}
 use Rattle.words.specs.Layout.{entryAt, nodeAt}
 use Rattle.node.specs.Entry.{childOf}
 use Rattle.table.specs.Header.{entriesAt}
-use Rattle.table.specs.Tree.{EntrySound}
-use Rattle.table.specs.Scan.{Counted, entered-yes, entered-no}
-use Rattle.table.specs.ScanParts.{node-in-table, node-below}
+use Rattle.table.specs.SoundTree.{EntrySound}
+use Rattle.table.specs.Inner.Scan.{NodeCounted, entered-yes, entered-no}
+use Rattle.table.specs.Laws.ScanParts.{node-in-table, node-below}
 use borrow.Author.Needs.{needs}
 use Rattle.table.proofs.scan.enter.Statement.{statement}
 use Rattle.table.proofs.scan.enter.Tie as tie
@@ -28,7 +29,7 @@ is-sound c = passed-not (told (c .before)) (c .if1 .left)
 node-is : (c : tie.After-node-at) → let a = c .before .before .before .before .before .args in c .node-at .result .now ≡ nodeAt (a .t .now) (childOf (entryAt (a .n .now) (a .k)))
 node-is c = c .node-at .ensures ∙ ap (nodeAt (c .before .before .before .before .before .args .t .now)) (c .before .child .ensures .0)
 
-told-count : (c : tie.After-is-counted) → let a = c .before .before .before .before .before .before .args in Tells (c .is-counted .result) (Counted (a .t .now) (childOf (entryAt (a .n .now) (a .k))))
+told-count : (c : tie.After-is-counted) → let a = c .before .before .before .before .before .before .args in Tells (c .is-counted .result) (NodeCounted (a .t .now) (childOf (entryAt (a .n .now) (a .k))))
 told-count c = simp (node-is (c .before)) at (c .is-counted .ensures)
 
 entry-sound-requires : tie.Need-entry-sound-requires

@@ -1,12 +1,14 @@
 use mathlib.Core.Path.{_≡_, ap, _∙_}
 use mir.Syntax.{w32}
 use mir.Val.{toZ, ofZ}
-use Rattle.whole.specs.Within.{back}
-use Rattle.whole.specs.Tells.{Tells, tells-false, tells-as, passed-not, failed-not}
+use Rattle.whole.specs.Laws.Within.{back}
+use Rattle.whole.specs.Tells.{Tells}
+use Rattle.whole.specs.Laws.Tells.{tells-false, tells-as, passed-not, failed-not}
 use Rattle.words.specs.Layout.{entryAt, nodeAt}
 use Rattle.node.specs.Entry.{childOf, entriesOf}
 use Rattle.table.specs.Header.{entriesAt}
-use Rattle.table.specs.ScanParts.{ChildSound, StampSound, entry-sound, child-sound, stamp-sound, node-in-table, leaf-test}
+use Rattle.table.specs.Inner.ScanParts.{ChildSound, StampSound}
+use Rattle.table.specs.Laws.ScanParts.{entry-sound, child-sound, stamp-sound, node-in-table, leaf-test}
 use borrow.Author.Needs.{needs}
 use Rattle.table.proofs.scan.entry_sound.Statement.{statement}
 use Rattle.table.proofs.scan.entry_sound.Tie as tie

@@ -1,7 +1,7 @@
-use Rattle.whole.specs.Within.{back}
-use Rattle.whole.specs.Order.{ltZ-true, ltZ-false}
-use Rattle.whole.specs.Tells.{tells-false}
-use Rattle.table.specs.ScanParts.{is-node-low, is-node-tells}
+use Rattle.whole.specs.Laws.Within.{back}
+use Rattle.whole.specs.Laws.Order.{ltZ-true, ltZ-false}
+use Rattle.whole.specs.Laws.Tells.{tells-false}
+use Rattle.table.specs.Laws.ScanParts.{is-node-low, is-node-tells}
 use borrow.Author.Needs.{needs}
 use Rattle.table.proofs.scan.is_node.Statement.{statement}
 use Rattle.table.proofs.scan.is_node.Tie as tie

@@ -1,5 +1,5 @@
 use Rattle.words.specs.Layout.{nodeAt}
-use Rattle.words.specs.PartLaws.{lent-part}
+use Rattle.words.specs.Laws.Parts.{lent-part}
 use borrow.Author.Needs.{needs}
 use Rattle.table.proofs.scan.node_at.Statement.{statement}
 use Rattle.table.proofs.scan.node_at.Tie as tie

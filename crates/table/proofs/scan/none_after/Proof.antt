@@ -3,13 +3,13 @@ use native.Mathlib.Omega.{arith}
 use mir.Syntax.{w32}
 use mir.Val.{toZ}
 use borrow.Author.Needs.{needs}
-use Rattle.whole.specs.Order.{ltZ-true, ltZ-false}
-use Rattle.whole.specs.Tells.{tells-true, tells-false}
-use Rattle.whole.specs.Within.{back}
-use Rattle.whole.specs.Within.{word-back}
-use Rattle.node.specs.Entry.{entriesOf, countOf}
-use Rattle.node.specs.EntryLaws.{count-fits}
-use Rattle.table.specs.ScanParts.{NoneBefore, none-first, none-more, none-all, one-after}
+use Rattle.whole.specs.Laws.Order.{ltZ-true, ltZ-false}
+use Rattle.whole.specs.Laws.Tells.{tells-true, tells-false}
+use Rattle.whole.specs.Laws.Within.{back}
+use Rattle.whole.specs.Laws.Within.{word-back}
+use Rattle.node.specs.Entry.{entriesOf, entryCount}
+use Rattle.node.specs.Laws.Entry.{count-fits}
+use Rattle.table.specs.Laws.ScanParts.{NoneBefore, none-before-first, none-more, none-all, one-after}
 use Rattle.table.proofs.scan.none_after.Statement.{statement}
 use Rattle.table.proofs.scan.none_after.Tie as tie
 
@@ -20,7 +20,7 @@ abbrev μ-loop : tie.MeasureT-loop
 μ-loop n last k₀ k = 8 - k
 
 loop-holds : tie.Need-loop-holds Inv-loop μ-loop
-loop-holds c = none-first _ _
+loop-holds c = none-before-first _ _
 
 count-requires : tie.Need-count-requires Inv-loop μ-loop
 count-requires c κs = search needs
@@ -32,7 +32,7 @@ returns : tie.Need-returns Inv-loop μ-loop
 returns c =
     let s = c .before .before .before .before .before in
     let k = c .before .before .before .before .loop .k in
-    let lt : k < countOf (s .args .n .now) = omega arith in
+    let lt : k < entryCount (s .args .n .now) = omega arith in
     let late = ltZ-true (simp (back (s .fits .last), word-back (c .before .stamp .result) (c .before .stamp .ok)) at (c .if2 .taken)) in
     tells-false (one-after (s .args .n .now) k (s .args .last) (c .before .stamp .result) lt (c .before .stamp .ensures) late)
 
@@ -46,7 +46,7 @@ loop-again : tie.Need-loop-again Inv-loop μ-loop
 loop-again c =
     let s = c .before .before .before .before .before in
     let at = c .before .before .before .before .loop in
-    let lt : at .k < countOf (s .args .n .now) = omega arith in
+    let lt : at .k < entryCount (s .args .n .now) = omega arith in
     let early = ltZ-false (simp (word-back (c .before .stamp .result) (c .before .stamp .ok)) at (c .if2 .left)) in
     none-more (s .args .n .now) (at .k) _ (c .before .stamp .result) (at .inv) lt (c .before .stamp .ensures) early
 

@@ -2,11 +2,12 @@ use mathlib.Core.Path.{_≡_, _∙_}
 use lib.Signed.{_≤ℤ_, clashℤ}
 use mir.Syntax.{w32}
 use mir.Val.{toZ, ofZ}
-use Rattle.whole.specs.Order.{ltZ-true, ltZ-false}
-use Rattle.whole.specs.Tells.{Tells, tells-true, tells-false, tells-as, passed-not, failed-not}
-use Rattle.whole.specs.Within.{back}
+use Rattle.whole.specs.Laws.Order.{ltZ-true, ltZ-false}
+use Rattle.whole.specs.Tells.{Tells}
+use Rattle.whole.specs.Laws.Tells.{tells-true, tells-false, tells-as, passed-not, failed-not}
+use Rattle.whole.specs.Laws.Within.{back}
 use Rattle.words.specs.Layout.{entryAt}
-use Rattle.whole.specs.Within.{word-back}
+use Rattle.whole.specs.Laws.Within.{word-back}
 use Rattle.track.specs.Numbers.{IsMinute}
 use Rattle.node.specs.Entry.{stampOf}
 use borrow.Author.Needs.{needs}

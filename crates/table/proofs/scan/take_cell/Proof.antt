@@ -4,14 +4,15 @@ use lib.Signed.{leZ-yes}
 use native.Mathlib.Omega.{arith}
 use mir.Syntax.{w32}
 use mir.Val.{toZ, ofZ}
-use Rattle.whole.specs.Order.{≤ℤ-trans}
-use Rattle.whole.specs.Within.{read32, from-zero}
+use Rattle.whole.specs.Laws.Order.{≤ℤ-trans}
+use Rattle.whole.specs.Laws.Within.{read32, from-zero}
 use Rattle.words.specs.Words.{natOf}
-use Rattle.whole.specs.Tells.{Tells, passed-not, failed-not}
+use Rattle.whole.specs.Tells.{Tells}
+use Rattle.whole.specs.Laws.Tells.{passed-not, failed-not}
 use Rattle.words.specs.Layout.{entryAt}
-use Rattle.track.specs.Small.{CellInRange}
+use Rattle.track.specs.Life.{CellInRange}
 use Rattle.node.specs.Entry.{cellOf}
-use Rattle.table.specs.Scan.{taken-yes, taken-no, keyOf}
+use Rattle.table.specs.Inner.Scan.{taken-yes, taken-no, keyOf}
 use borrow.Author.Needs.{needs}
 use Rattle.table.proofs.scan.take_cell.Statement.{statement}
 use Rattle.table.proofs.scan.take_cell.Tie as tie

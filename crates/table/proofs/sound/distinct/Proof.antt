@@ -1,5 +1,5 @@
-use Rattle.whole.specs.Tells.{tells-iff}
-use Rattle.sort.specs.SortedLaws.{sorted-tells}
+use Rattle.whole.specs.Laws.Tells.{tells-iff}
+use Rattle.sort.specs.Laws.Sorted.{sorted-tells}
 use borrow.Author.Needs.{needs}
 use Rattle.table.proofs.sound.distinct.Statement.{statement}
 use Rattle.table.proofs.sound.distinct.Tie as tie

@@ -1,5 +1,5 @@
-use Rattle.whole.specs.Tells.{tells-false, passed-not, failed-not}
-use Rattle.table.specs.SoundBy.{header-of, root-of}
+use Rattle.whole.specs.Laws.Tells.{tells-false, passed-not, failed-not}
+use Rattle.table.specs.Inner.SoundBy.{header-of, root-of}
 use borrow.Author.Needs.{needs}
 use Rattle.table.proofs.sound.is_sound.Statement.{statement}
 use Rattle.table.proofs.sound.is_sound.Tie as tie

@@ -5,11 +5,11 @@ use lib.ListN.{length, set, length-set}
 use lib.Seq.{length-take-le}
 use mir.Syntax.{w32}
 use mir.Val.{toZ, ofZ}
-use Rattle.whole.specs.Tells.{tells-false, tells-as, passed-not, failed-not}
-use Rattle.whole.specs.Within.{word-back}
+use Rattle.whole.specs.Laws.Tells.{tells-false, tells-as, passed-not, failed-not}
+use Rattle.whole.specs.Laws.Within.{word-back}
 use Rattle.table.specs.Header.{capacity, clock, root, height, entriesAt, nodesFor}
-use Rattle.table.specs.Scan.{Outcome, Counted, Passes, Leaves}
-use Rattle.table.specs.SoundBy.{root-below, root-marked, ready-root, few-cells, passes-of, free-of, keys-of, sound-of, RootMarked}
+use Rattle.table.specs.Inner.Scan.{Outcome, NodeCounted, Passes, Leaves}
+use Rattle.table.specs.Inner.SoundBy.{root-below, root-marked, ready-root, few-cells, passes-of, free-of, keys-of, sound-of, RootMarked}
 use borrow.Author.Needs.{needs}
 use Rattle.table.proofs.sound.judged.Statement.{statement}
 use Rattle.table.proofs.sound.judged.Tie as tie
@@ -27,7 +27,7 @@ height-is : (c : tie.After-place-at3) → c .place-at3 .result ≡ height (c .be
 height-is c = c .place-at3 .ensures .0
 
 outcome : (c : tie.After-pass) → let s = c .before .before .before .before .before .before .before .before .before .args in let w = s .t .now in
-    Outcome (entriesAt w) (Counted w) (capacity w) (clock w) (height w) (entriesAt w (root w)) (set (s .marks .now) (root w) 1) (s .keys .now) 0 (c .pass .result) (c .pass .last .1 .1 .1 .1 .1 .0) (c .pass .last .1 .1 .1 .1 .1 .1 .0)
+    Outcome (entriesAt w) (NodeCounted w) (capacity w) (clock w) (height w) (entriesAt w (root w)) (set (s .marks .now) (root w) 1) (s .keys .now) 0 (c .pass .result) (c .pass .last .1 .1 .1 .1 .1 .0) (c .pass .last .1 .1 .1 .1 .1 .1 .0)
 outcome c = simp (clock-is (c .before .before .before .before), cells-are (c .before .before .before .before .before .before), root-is (c .before .before .before .before .before), height-is (c .before .before .before)) at (c .pass .ensures)
 
 marks-kept : (c : tie.After-pass) → length (c .pass .last .1 .1 .1 .1 .1 .0) ≡ length (c .before .before .before .before .before .before .before .before .before .args .marks .now)
@@ -37,7 +37,7 @@ marked : (s : tie.Start) → RootMarked (s .args .t .now) (set (s .args .marks .
 marked s = root-marked (s .pre .0) (s .pre .2)
 
 passed : (c : tie.After-m) → let s = c .before .before .before .before .before .before .before .before .before .before .before .before .before .before .before .args in let w = s .t .now in
-    Passes (entriesAt w) (Counted w) (capacity w) (clock w) (height w) (entriesAt w (root w)) (set (s .marks .now) (root w) 1) 0
+    Passes (entriesAt w) (NodeCounted w) (capacity w) (clock w) (height w) (entriesAt w (root w)) (set (s .marks .now) (root w) 1) 0
     × Leaves (entriesAt w) (height w) (entriesAt w (root w)) (set (s .marks .now) (root w) 1) (s .keys .now) 0 (c .m .given .0 .0) (c .before .before .before .before .before .before .pass .last .1 .1 .1 .1 .1 .0) (c .before .before .before .before .before .before .pass .last .1 .1 .1 .1 .1 .1 .0)
 passed c = outcome (c .before .before .before .before .before .before) .pass (c .m .given .0 .0) (c .m .given .1)
 

@@ -1,8 +1,8 @@
 use Prim.Native.Nat.{_-_, _≤_}
 use native.Mathlib.Omega.{arith}
 use borrow.Author.Needs.{needs}
-use Rattle.whole.specs.Tells.{tells-true, tells-false, passed-not, failed-not}
-use Rattle.table.specs.SoundBy.{FreeTo, free-none, free-more}
+use Rattle.whole.specs.Laws.Tells.{tells-true, tells-false, passed-not, failed-not}
+use Rattle.table.specs.Inner.SoundBy.{FreeTo, free-none, free-more}
 use Rattle.table.proofs.sound.rest_free.Statement.{statement}
 use Rattle.table.proofs.sound.rest_free.Tie as tie
 

@@ -1,5 +1,5 @@
 use lib.Dec.{lit≤}
-use Rattle.table.specs.SoundBy.{zeros}
+use Rattle.table.specs.Inner.SoundBy.{zeros}
 use borrow.Author.Needs.{needs}
 use Rattle.table.proofs.sound.tree_sound.Statement.{statement}
 use Rattle.table.proofs.sound.tree_sound.Tie as tie

@@ -2,8 +2,9 @@ use mathlib.Core.Path.{_≡_}
 use mir.Syntax.{w32}
 use mir.Val.{toZ, ofZ}
 use borrow.Author.Needs.{needs}
-use Rattle.whole.specs.Within.{back}
-use Rattle.whole.specs.Tells.{Tells, tells-false, tells-as, passed-not, failed-not}
+use Rattle.whole.specs.Laws.Within.{back}
+use Rattle.whole.specs.Tells.{Tells}
+use Rattle.whole.specs.Laws.Tells.{tells-false, tells-as, passed-not, failed-not}
 use Rattle.track.specs.Numbers.{IsIdentifier, IsKept, IsVelocity, IsMinute}
 use Rattle.track.proofs.cell.cell_in_range.Statement.{statement}
 use Rattle.track.proofs.cell.cell_in_range.Tie as tie

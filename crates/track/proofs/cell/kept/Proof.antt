@@ -1,8 +1,8 @@
 use lib.IntN.{_-ℤ_, _*ℤ_}
 use mir.Syntax.{w32}
 use mir.Val.{SFits}
-use Rattle.whole.specs.Within.{mul-in, fits, back}
-use Rattle.track.specs.Numbers.{minute-in, kept-in}
+use Rattle.whole.specs.Laws.Within.{mul-in, fits, back}
+use Rattle.track.specs.Laws.Numbers.{minute-in, kept-in}
 use Rattle.track.proofs.cell.kept.Statement.{statement}
 use Rattle.track.proofs.cell.kept.Tie as tie
 

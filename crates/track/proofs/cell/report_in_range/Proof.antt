@@ -1,6 +1,7 @@
 use borrow.Author.Needs.{needs}
-use Rattle.whole.specs.Within.{back}
-use Rattle.whole.specs.Tells.{Tells, tells-false, tells-as, passed-not, failed-not}
+use Rattle.whole.specs.Laws.Within.{back}
+use Rattle.whole.specs.Tells.{Tells}
+use Rattle.whole.specs.Laws.Tells.{tells-false, tells-as, passed-not, failed-not}
 use Rattle.track.specs.Numbers.{IsIdentifier, IsMinute, IsPosition, IsVelocity}
 use Rattle.track.proofs.cell.report_in_range.Statement.{statement}
 use Rattle.track.proofs.cell.report_in_range.Tie as tie

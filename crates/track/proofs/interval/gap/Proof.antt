@@ -4,9 +4,10 @@ use lib.IntN.{_-ℤ_, _*ℤ_}
 use mir.Syntax.{w32, w64}
 use mir.Val.{toZ, ofZ}
 use borrow.Author.Needs.{needs}
-use Rattle.whole.specs.Within.{Within, sub-in, mul-in, fits, back, read64}
-use Rattle.track.specs.Decides.{gapAt, gapBy}
-use Rattle.track.specs.Small.{gap-at-in, gap-by-in}
+use Rattle.whole.specs.Within.{Within}
+use Rattle.whole.specs.Laws.Within.{sub-in, mul-in, fits, back, read64}
+use Rattle.track.specs.Inner.Decides.{gapAt, gapBy}
+use Rattle.track.specs.Laws.Small.{gap-at-in, gap-by-in}
 use Rattle.track.proofs.interval.gap.Statement.{statement}
 use Rattle.track.proofs.interval.gap.Tie as tie
 

@@ -1,9 +1,9 @@
 use mathlib.Core.Path.{refl, subst, _∙_}
 use borrow.Author.Needs.{needs}
-use Rattle.whole.specs.Within.{word-back}
-use Rattle.whole.specs.Tells.{passed, failed}
+use Rattle.whole.specs.Laws.Within.{word-back}
+use Rattle.whole.specs.Laws.Tells.{passed, failed}
 use Rattle.track.specs.Accepted.{KeptInRange, TakenInRange}
-use Rattle.track.specs.AnswerLaws.{tells-yes, tells-no, tells-asked, tells-reported, tells-first}
+use Rattle.track.specs.Laws.Answer.{tells-yes, tells-no, tells-asked, tells-reported, tells-first}
 use Rattle.track.proofs.meeting.answer.Statement.{statement}
 use Rattle.track.proofs.meeting.answer.Tie as tie
 

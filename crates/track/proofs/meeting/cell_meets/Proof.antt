@@ -1,7 +1,7 @@
 use borrow.Author.Needs.{needs}
-use Rattle.whole.specs.Within.{read32}
-use Rattle.track.specs.Numbers.{minute-in}
-use Rattle.track.specs.Small.{cell-bounds-in}
+use Rattle.whole.specs.Laws.Within.{read32}
+use Rattle.track.specs.Laws.Numbers.{minute-in}
+use Rattle.track.specs.Laws.Small.{cell-bounds-in}
 use Rattle.track.proofs.meeting.cell_meets.Statement.{statement}
 use Rattle.track.proofs.meeting.cell_meets.Tie as tie
 

@@ -2,13 +2,14 @@ use mathlib.Core.Path.{_≡_, sym, _∙_}
 use mir.Syntax.{w32, w64}
 use mir.Val.{toZ, ofZ}
 use borrow.Author.Needs.{needs}
-use Rattle.whole.specs.Within.{read32, read64, back}
-use Rattle.whole.specs.Tells.{not-true, tells-false}
-use Rattle.track.specs.Numbers.{minute-in}
+use Rattle.whole.specs.Laws.Within.{read32, read64, back}
+use Rattle.whole.specs.Laws.Tells.{not-true, tells-false}
+use Rattle.track.specs.Laws.Numbers.{minute-in}
 use Rattle.track.specs.Meets.{span}
-use Rattle.track.specs.Cut.{livesIn}
-use Rattle.track.specs.Decides.{onX, meetingOf, meetsIn, meets-law, never-on-x}
-use Rattle.track.specs.Small.{Small, along-small, whole-small, meeting-small, span-in}
+use Rattle.track.specs.Inner.Cut.{livesIn}
+use Rattle.track.specs.Laws.Decides.{onX, meetingOf, meetsIn, meets-law, never-on-x}
+use Rattle.track.specs.Inner.Small.{Small}
+use Rattle.track.specs.Laws.Small.{along-small, whole-small, meeting-small, span-in}
 use Rattle.track.proofs.meeting.meets.Statement.{statement}
 use Rattle.track.proofs.meeting.meets.Tie as tie
 

@@ -3,9 +3,10 @@ use lib.IntN.{_-ℤ_}
 use mir.Syntax.{w32, w64}
 use mir.Val.{toZ, ofZ}
 use borrow.Author.Needs.{needs}
-use Rattle.whole.specs.Within.{Within, sub-in, fits, read32, read64}
-use Rattle.track.specs.Numbers.{minute-in}
-use Rattle.track.specs.Decides.{span-one, span-minutes}
+use Rattle.whole.specs.Within.{Within}
+use Rattle.whole.specs.Laws.Within.{sub-in, fits, read32, read64}
+use Rattle.track.specs.Laws.Numbers.{minute-in}
+use Rattle.track.specs.Laws.Decides.{span-one, span-minutes}
 use Rattle.track.proofs.meeting.span.Statement.{statement}
 use Rattle.track.proofs.meeting.span.Tie as tie
 

@@ -1,8 +1,8 @@
 use lib.IntN.{pos}
 use lib.Signed.{_<ℤ_, _≤ℤ_, leZ-yes, clashℤ}
-use Rattle.whole.specs.Within.{back}
-use Rattle.whole.specs.Order.{ltZ-true, ltZ-false}
-use Rattle.whole.specs.Tells.{tells-false}
+use Rattle.whole.specs.Laws.Within.{back}
+use Rattle.whole.specs.Laws.Order.{ltZ-true, ltZ-false}
+use Rattle.whole.specs.Laws.Tells.{tells-false}
 use Rattle.track.proofs.minute.is_minute.Statement.{statement}
 use Rattle.track.proofs.minute.is_minute.Tie as tie
 

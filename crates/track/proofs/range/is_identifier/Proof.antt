@@ -2,8 +2,8 @@ use Prim.Native.Nat.{_^_}
 use native.Mathlib.Omega.{arith}
 use lib.IntN.{ℤ, pos}
 use lib.Signed.{_≤ℤ_, _<ℤ_, leZ-yes}
-use Rattle.whole.specs.Difference.{each, difs}
-use Rattle.whole.specs.Within.{back, fits-below}
+use Rattle.whole.specs.Laws.Difference.{each, difs}
+use Rattle.whole.specs.Laws.Within.{back, fits-below}
 use Rattle.track.proofs.range.is_identifier.Statement.{statement}
 use Rattle.track.proofs.range.is_identifier.Tie as tie
 

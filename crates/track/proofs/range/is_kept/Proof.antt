@@ -1,5 +1,5 @@
 use lib.Signed.{leZ-yes}
-use Rattle.whole.specs.Within.{back}
+use Rattle.whole.specs.Laws.Within.{back}
 use Rattle.track.proofs.range.is_kept.Statement.{statement}
 use Rattle.track.proofs.range.is_kept.Tie as tie
 

@@ -3,9 +3,10 @@ use lib.IntN.{ℤ, pos, negℤ, natAbs, _-ℤ_}
 use lib.Signed.{_≤ℤ_, _<ℤ_, leZ-yes, clashℤ}
 use mir.Syntax.{w32}
 use mir.Val.{toZ, ofZ}
-use Rattle.whole.specs.Within.{Within, back, fits, sub-in, lit-in, neg-read32, from-zero, between, at-most, at-least, abs-positive}
-use Rattle.whole.specs.Order.{ltZ-true, ltZ-false}
-use Rattle.whole.specs.Tells.{tells-false}
+use Rattle.whole.specs.Within.{Within}
+use Rattle.whole.specs.Laws.Within.{back, fits, sub-in, lit-in, neg-read32, from-zero, between, at-most, at-least, abs-positive}
+use Rattle.whole.specs.Laws.Order.{ltZ-true, ltZ-false}
+use Rattle.whole.specs.Laws.Tells.{tells-false}
 use Rattle.track.proofs.range.within.Statement.{statement}
 use Rattle.track.proofs.range.within.Tie as tie
 

@@ -4,14 +4,14 @@ use mir.Val.{toZ, ofZ}
 use native.Mathlib.Omega.{arith}
 use lib.IntN.{ℤ, pos}
 use lib.Signed.{_≤ℤ_}
-use Rattle.whole.specs.Order.{ltZ-true, ltZ-false}
-use Rattle.whole.specs.Tells.{passed-not, failed-not}
-use Rattle.whole.specs.Within.{back, word-back}
+use Rattle.whole.specs.Laws.Order.{ltZ-true, ltZ-false}
+use Rattle.whole.specs.Laws.Tells.{passed-not, failed-not}
+use Rattle.whole.specs.Laws.Within.{back, word-back}
 use Rattle.table.specs.Header.{clock}
 use Rattle.table.specs.Sound.{Sound}
 use Rattle.tree.specs.Steps.{DropInRange}
-use Rattle.tree.specs.StayingLaws.{manyStay}
-use Rattle.tree.specs.Outcomes.{drop-unsound, drop-out, drop-before, drop-holding, drop-not-live, drop-done}
+use Rattle.tree.specs.Inner.StayingCells.{manyStay}
+use Rattle.tree.specs.Laws.Outcomes.{drop-unsound, drop-out, drop-before, drop-holding, drop-not-live, drop-done}
 use borrow.Author.Needs.{needs}
 use Rattle.tree.proofs.change.drop.Statement.{statement}
 use Rattle.tree.proofs.change.drop.Tie as tie

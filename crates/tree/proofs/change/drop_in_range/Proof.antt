@@ -1,5 +1,6 @@
-use Rattle.whole.specs.Tells.{Tells, tells-false, passed-not, failed-not}
-use Rattle.whole.specs.Within.{back}
+use Rattle.whole.specs.Tells.{Tells}
+use Rattle.whole.specs.Laws.Tells.{tells-false, passed-not, failed-not}
+use Rattle.whole.specs.Laws.Within.{back}
 use Rattle.track.specs.Numbers.{IsMinute}
 use borrow.Author.Needs.{needs}
 use Rattle.tree.proofs.change.drop_in_range.Statement.{statement}

@@ -1,12 +1,12 @@
 use mathlib.Core.Path.{_≡_, _∙_}
 use mir.Syntax.{w32}
 use mir.Val.{toZ, ofZ}
-use Rattle.whole.specs.Tells.{passed-not, failed-not}
-use Rattle.whole.specs.Within.{back, word-back}
+use Rattle.whole.specs.Laws.Tells.{passed-not, failed-not}
+use Rattle.whole.specs.Laws.Within.{back, word-back}
 use Rattle.track.specs.Report.{Reports}
 use Rattle.table.specs.Header.{clock}
 use Rattle.table.specs.Sound.{Sound}
-use Rattle.tree.specs.Outcomes.{report-unsound, report-refused, can-report, report-taken}
+use Rattle.tree.specs.Laws.Outcomes.{report-unsound, report-refused, can-report, report-taken}
 use borrow.Author.Needs.{needs}
 use Rattle.tree.proofs.change.report.Statement.{statement}
 use Rattle.tree.proofs.change.report.Tie as tie

@@ -1,9 +1,9 @@
 use mathlib.Core.Path.{_≡_, sym, _∙_}
-use Rattle.whole.specs.Within.{back}
+use Rattle.whole.specs.Laws.Within.{back}
 use Rattle.table.specs.Header.{root, height, entriesAt}
-use Rattle.tree.specs.Weights.{weight-node}
-use Rattle.tree.specs.Staying.{stays}
-use Rattle.tree.specs.Outcomes.{can-count-root}
+use Rattle.tree_laws.specs.Laws.Weights.{weight-node}
+use Rattle.tree.specs.Inner.Staying.{stays}
+use Rattle.tree.specs.Laws.Outcomes.{can-count-root}
 use borrow.Author.Needs.{needs}
 use Rattle.tree.proofs.change.staying_in.Statement.{statement}
 use Rattle.tree.proofs.change.staying_in.Tie as tie

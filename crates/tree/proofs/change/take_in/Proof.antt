@@ -2,15 +2,15 @@ use mathlib.Core.Path.{_≡_}
 use mir.Syntax.{w32}
 use mir.Val.{toZ, ofZ}
 use native.Mathlib.Omega.{arith}
-use Rattle.whole.specs.Within.{back}
-use Rattle.node.specs.Made.{leafEntry}
+use Rattle.whole.specs.Laws.Within.{back}
+use Rattle.node.specs.Inner.Made.{leafEntry}
 use Rattle.table.specs.Header.{capacity}
-use Rattle.tree.specs.Clear.{Cleared}
-use Rattle.tree.specs.Headed.{Clocked}
-use Rattle.tree.specs.PutCell.{PutCell}
-use Rattle.tree.specs.StayingLaws.{manyStay}
-use Rattle.tree.specs.Stepping.{sound-holding}
-use Rattle.tree.specs.Outcomes.{cell-full, room-left, cell-taken}
+use Rattle.tree.specs.Inner.Clear.{Cleared}
+use Rattle.tree.specs.Inner.Headed.{Clocked}
+use Rattle.tree.specs.Inner.PutCell.{PutCell}
+use Rattle.tree.specs.Inner.StayingCells.{manyStay}
+use Rattle.tree.specs.Laws.Stepping.{sound-holding}
+use Rattle.tree.specs.Laws.Outcomes.{cell-full, room-left, cell-taken}
 use borrow.Author.Needs.{needs}
 use Rattle.tree.proofs.change.take_in.Statement.{statement}
 use Rattle.tree.proofs.change.take_in.Tie as tie

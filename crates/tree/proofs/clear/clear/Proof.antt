@@ -1,9 +1,10 @@
 use mir.Syntax.{w32}
 use mir.Val.{toZ, ofZ}
 use lib.ListN.{length}
-use Rattle.whole.specs.Within.{back}
-use Rattle.tree.specs.Holding.{leaves}
-use Rattle.tree.specs.Clear.{Clearing, Cleared, clearing-none, clearing-then}
+use Rattle.whole.specs.Laws.Within.{back}
+use Rattle.tree.specs.Inner.Holding.{leaves}
+use Rattle.tree.specs.Inner.Clear.{Clearing, Cleared}
+use Rattle.tree.specs.Laws.Clear.{clearing-none, clearing-then}
 use Rattle.tree.proofs.clear.clear.Statement.{statement}
 use Rattle.tree.proofs.clear.clear.Tie as tie
 

@@ -1,9 +1,9 @@
 use mathlib.Core.Path.{_≡_}
-use Rattle.whole.specs.Tells.{not-true, not-false}
-use Rattle.whole.specs.Within.{back}
+use Rattle.whole.specs.Laws.Tells.{not-true, not-false}
+use Rattle.whole.specs.Laws.Within.{back}
 use Rattle.table.specs.Header.{root, height}
-use Rattle.tree.specs.Takes.{Takes}
-use Rattle.tree.specs.Clear.{can-take-root, taken-loose, cleared-one, clears-none, clears-one}
+use Rattle.tree_nodes.specs.Inner.Takes.{Takes}
+use Rattle.tree.specs.Laws.Clear.{can-take-root, taken-loose, cleared-one, clears-none, clears-one}
 use borrow.Author.Needs.{needs}
 use Rattle.tree.proofs.clear.clear_one.Statement.{statement}
 use Rattle.tree.proofs.clear.clear_one.Tie as tie

@@ -2,12 +2,12 @@ use mathlib.Core.Path.{_≡_, refl, ap, _∙_}
 use Prim.Native.Nat.{suc, _-_}
 use native.Mathlib.Omega.{arith}
 use lib.ListN.{length, take}
-use Rattle.node.specs.ChangeAt.{Changed}
+use Rattle.node.specs.Inner.ChangeAt.{Changed}
 use Rattle.table.specs.Header.{root, height, entriesAt}
-use Rattle.tree.specs.AtNode.{kept-at}
-use Rattle.tree.specs.Headed.{Rooted}
-use Rattle.tree.specs.Part.{childAt}
-use Rattle.tree.specs.Settle.{settled-none, root-in-table, long, child-low, settled-way}
+use Rattle.tree_nodes.specs.Laws.AtNode.{kept-at}
+use Rattle.tree.specs.Inner.Headed.{Rooted}
+use Rattle.tree_nodes.specs.Inner.PartChild.{childAt}
+use Rattle.tree.specs.Laws.Settle.{settled-none, root-in-table, long, child-low, settled-way}
 use borrow.Author.Needs.{needs}
 use Rattle.tree.proofs.clear.settle_root.Statement.{statement}
 use Rattle.tree.proofs.clear.settle_root.Tie as tie

@@ -6,24 +6,25 @@ use lib.ListN.{length, getD}
 use borrow.Author.Needs.{needs}
 use borrow.Fn.Kinds.{In}
 use borrow.Fn.PlainCycle.{Measures, is, falls, and}
-use Rattle.whole.specs.Tells.{Tells, passed, failed}
-use Rattle.whole.specs.Within.{back}
+use Rattle.whole.specs.Tells.{Tells}
+use Rattle.whole.specs.Laws.Tells.{passed, failed}
+use Rattle.whole.specs.Laws.Within.{back}
 use Rattle.words.specs.Layout.{fullNode, entryAt}
 use Rattle.node.specs.Entry.{cellOf}
 use Rattle.table.specs.Header.{entriesAt}
-use Rattle.tree.specs.AtNode.{at-most, entry-here}
-use Rattle.tree.specs.Kept.{ample-in}
-use Rattle.tree.specs.Part.{childAt}
-use Rattle.tree.specs.Goes.{Goes}
-use Rattle.tree.specs.Staying.{stays, goes-none, stays-one, CanCount, stayFrom, stay-end, stay-leaf, stay-inner, stay-most, can-count-child}
+use Rattle.tree_nodes.specs.Laws.AtNode.{at-most, entry-here}
+use Rattle.tree_nodes.specs.Laws.Kept.{ample-in}
+use Rattle.tree_nodes.specs.Inner.PartChild.{childAt}
+use Rattle.tree_laws.specs.Inner.Goes.{Goes}
+use Rattle.tree.specs.Inner.Staying.{stays, goes-none, stays-one, CanCount, stayFrom, stay-end, stay-leaf, stay-inner, stay-most, can-count-child}
 use Rattle.tree.proofs.count.staying.Reads as reads
 use Rattle.tree.proofs.count.staying.Kinds as kinds
 use Rattle.tree.proofs.count.+staying.Lts-staying as lts
 use Rattle.node.proofs.entry.cell.Reads as cell-reads
 use Rattle.table.proofs.scan.node_at.Reads as node-at-reads
-use Rattle.tree.proofs.at.child_at.Reads as child-at-reads
-use Rattle.tree.proofs.at.count_at.Reads as count-at-reads
-use Rattle.tree.proofs.take.goes.Reads as goes-reads
+use Rattle.tree_nodes.proofs.at.child_at.Reads as child-at-reads
+use Rattle.tree_nodes.proofs.at.count_at.Reads as count-at-reads
+use Rattle.tree_nodes.proofs.take.goes.Reads as goes-reads
 use Rattle.tree.proofs.count.+staying.{statement}
 use Rattle.tree.proofs.count.+staying.Tie.{close}
 

@@ -1,5 +1,5 @@
-use Rattle.whole.specs.Within.{back}
-use Rattle.tree.specs.Headed.{clocked}
+use Rattle.whole.specs.Laws.Within.{back}
+use Rattle.tree.specs.Laws.Headed.{clocked}
 use borrow.Author.Needs.{needs}
 use Rattle.tree.proofs.header.set_clock.Statement.{statement}
 use Rattle.tree.proofs.header.set_clock.Tie as tie

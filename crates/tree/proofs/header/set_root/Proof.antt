@@ -1,7 +1,7 @@
 use native.Mathlib.Omega.{arith}
 use lib.ListN.{length-set}
-use Rattle.whole.specs.Within.{word-back}
-use Rattle.tree.specs.Headed.{rooted}
+use Rattle.whole.specs.Laws.Within.{word-back}
+use Rattle.tree.specs.Laws.Headed.{rooted}
 use borrow.Author.Needs.{needs}
 use Rattle.tree.proofs.header.set_root.Statement.{statement}
 use Rattle.tree.proofs.header.set_root.Tie as tie

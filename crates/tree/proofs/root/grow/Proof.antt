@@ -3,17 +3,17 @@ use mathlib.Core.List.{[], _∷_, _++_}
 use Prim.Native.Nat.{_+_}
 use native.Mathlib.Omega.{arith}
 use borrow.Author.Needs.{needs}
-use Rattle.whole.specs.Within.{back}
-use Rattle.node.specs.ChangeAt.{Changed}
+use Rattle.whole.specs.Laws.Within.{back}
+use Rattle.node.specs.Inner.ChangeAt.{Changed}
 use Rattle.table.specs.Header.{capacity, root, height, nodesFor, entriesAt}
-use Rattle.table.specs.Tree.{isLeaf}
-use Rattle.table.specs.ScanParts.{leaf-test}
-use Rattle.tree.specs.AtNode.{length-at, appended-at}
-use Rattle.tree.specs.FirstFree.{FirstFree}
-use Rattle.tree.specs.EntryAfresh.{entryAbove}
-use Rattle.tree.specs.Headed.{Rooted}
-use Rattle.tree.specs.Part.{Parted}
-use Rattle.tree.specs.Grow.{root-in-table, root-low, root-in-range, height-low, above-in-table, above-low, above-room, long, can-part-root, grown}
+use Rattle.table.specs.SoundTree.{isLeaf}
+use Rattle.table.specs.Laws.ScanParts.{leaf-test}
+use Rattle.tree_nodes.specs.Laws.AtNode.{length-at, appended-at}
+use Rattle.tree_nodes.specs.Inner.FirstFree.{FirstFree}
+use Rattle.tree_nodes.specs.Inner.EntryAfresh.{entryAbove}
+use Rattle.tree.specs.Inner.Headed.{Rooted}
+use Rattle.tree_nodes.specs.Inner.PartChild.{Parted}
+use Rattle.tree.specs.Laws.Grow.{root-in-table, root-low, root-in-range, height-low, above-in-table, above-low, above-room, long, can-part-root, grown}
 use Rattle.tree.proofs.root.grow.Statement.{statement}
 use Rattle.tree.proofs.root.grow.Tie as tie
 

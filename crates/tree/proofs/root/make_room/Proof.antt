@@ -1,10 +1,10 @@
 use mathlib.Core.Path.{_≡_, ap, _∙_}
 use native.Mathlib.Omega.{arith}
 use lib.ListN.{length}
-use Rattle.whole.specs.Within.{back}
+use Rattle.whole.specs.Laws.Within.{back}
 use Rattle.table.specs.Header.{root, entriesAt}
-use Rattle.tree.specs.AtNode.{at-most}
-use Rattle.tree.specs.Grow.{grown-none}
+use Rattle.tree_nodes.specs.Laws.AtNode.{at-most}
+use Rattle.tree.specs.Laws.Grow.{grown-none}
 use borrow.Author.Needs.{needs}
 use Rattle.tree.proofs.root.make_room.Statement.{statement}
 use Rattle.tree.proofs.root.make_room.Tie as tie

@@ -1,8 +1,8 @@
 use mathlib.Core.Path.{_≡_}
-use Rattle.whole.specs.Within.{back}
+use Rattle.whole.specs.Laws.Within.{back}
 use Rattle.table.specs.Header.{root, height}
-use Rattle.tree.specs.Grow.{Grown}
-use Rattle.tree.specs.PutCell.{can-put, put-cell, grown-room, put-grown}
+use Rattle.tree.specs.Inner.Grow.{Grown}
+use Rattle.tree.specs.Laws.PutCell.{can-put, put-cell, grown-room, put-grown}
 use borrow.Author.Needs.{needs}
 use Rattle.tree.proofs.root.put_cell.Statement.{statement}
 use Rattle.tree.proofs.root.put_cell.Tie as tie

@@ -5,11 +5,13 @@ use lib.Signed.{_≤ℤ_, clashℤ}
 use mir.Syntax.{w32}
 use mir.Val.{toZ, ofZ}
 use borrow.Author.Needs.{needs}
-use Rattle.whole.specs.Within.{back, read32}
-use Rattle.whole.specs.Order.{ltZ-true, ltZ-false}
-use Rattle.whole.specs.Tells.{Tells, passed-not, failed-not}
-use Rattle.track.specs.Numbers.{kept, kept-in}
-use Rattle.track.specs.Refusals.{not-zero}
+use Rattle.whole.specs.Laws.Within.{back, read32}
+use Rattle.whole.specs.Laws.Order.{ltZ-true, ltZ-false}
+use Rattle.whole.specs.Tells.{Tells}
+use Rattle.whole.specs.Laws.Tells.{passed-not, failed-not}
+use Rattle.track.specs.Numbers.{kept}
+use Rattle.track.specs.Laws.Numbers.{kept-in}
+use Rattle.track.specs.Laws.Refusals.{not-zero}
 use Rattle.track.specs.Report.{ReportInRange}
 use Rattle.track.proofs.cell.Cell.reported.Statement.{statement}
 use Rattle.track.proofs.cell.Cell.reported.Tie as tie

@@ -4,12 +4,13 @@ use lib.ListN.{getD}
 use mir.Syntax.{w32, w64}
 use mir.Val.{toZ, ofZ}
 use borrow.Author.Needs.{needs}
-use Rattle.whole.specs.Within.{read32, read64}
+use Rattle.whole.specs.Laws.Within.{read32, read64}
 use Rattle.track.specs.Meets.{low, high, lowVelocity, highVelocity}
-use Rattle.track.specs.Cut.{cutTo}
-use Rattle.track.specs.Decides.{gapLine, turnedLine, alongTo}
-use Rattle.track.specs.Small.{SmallLine, gap-small, turned-small, cut-small}
-use Rattle.track.specs.declared.interval.Line.{Line}
+use Rattle.track.specs.Inner.Cut.{cutTo}
+use Rattle.track.specs.Inner.Decides.{gapLine, turnedLine, alongTo}
+use Rattle.track.specs.Inner.Small.{SmallStraight}
+use Rattle.track.specs.Laws.Small.{gap-small, turned-small, cut-small}
+use Rattle.track.specs.declared.interval.Straight.{Straight}
 use Rattle.track.proofs.interval.Interval.along.Statement.{statement}
 use Rattle.track.proofs.interval.Interval.along.Tie as tie
 
@@ -45,16 +46,16 @@ module _ (s : tie.Start) where
   r-span = read64 tt (s .pre .4)
 
   -- the two lines, and that they are small
-  abbrev under : Line
+  abbrev under : Straight
   under = gapLine (s .args .start) (s .args .span) (s .args .e .high) (s .args .e .high2) (low (s .args .t3)) (lowVelocity (s .args .t3))
 
-  abbrev over : Line
+  abbrev over : Straight
   over = gapLine (s .args .start) (s .args .span) (s .args .e .low) (s .args .e .low2) (high (s .args .t3)) (highVelocity (s .args .t3))
 
-  under-small : SmallLine under
+  under-small : SmallStraight under
   under-small = gap-small (s .pre .3) (s .pre .4) (s .pre .1 .high-in) (s .pre .1 .high2-in) (s .pre .2 .low-in) (s .pre .2 .low-velocity-in)
 
-  over-small : SmallLine over
+  over-small : SmallStraight over
   over-small = gap-small (s .pre .3) (s .pre .4) (s .pre .1 .low-in) (s .pre .1 .low2-in) (s .pre .2 .high-in) (s .pre .2 .high-velocity-in)
 
 ruleset reads = (r-low, r-high, r-low2, r-high2, r-row-low, r-row-high, r-row-low-velocity, r-row-high-velocity, r-start, r-span)

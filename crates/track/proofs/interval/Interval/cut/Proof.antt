@@ -6,8 +6,9 @@ use lib.Signed.{ltZ}
 use mir.Syntax.{w64}
 use mir.Val.{toZ, ofZ}
 use borrow.Author.Needs.{needs}
-use Rattle.whole.specs.Within.{Within, mul-in, add-in, sub-in, lit-in, fits, read64, neg-read64}
-use Rattle.track.specs.Cut.{rising-later, rising-same, falling-earlier, falling-same, level-never, level-same}
+use Rattle.whole.specs.Within.{Within}
+use Rattle.whole.specs.Laws.Within.{mul-in, add-in, sub-in, lit-in, fits, read64, neg-read64}
+use Rattle.track.specs.Laws.Cut.{rising-later, rising-same, falling-earlier, falling-same, level-never, level-same}
 use Rattle.track.proofs.interval.Interval.cut.Statement.{statement}
 use Rattle.track.proofs.interval.Interval.cut.Tie as tie
 

@@ -4,8 +4,9 @@ use lib.IntN.{_*ℤ_}
 use mir.Syntax.{w64}
 use mir.Val.{toZ, ofZ}
 use borrow.Author.Needs.{needs}
-use Rattle.whole.specs.Within.{Within, mul-in, fits, back, read64}
-use Rattle.track.specs.Cut.{lives-in-order, lives-never}
+use Rattle.whole.specs.Within.{Within}
+use Rattle.whole.specs.Laws.Within.{mul-in, fits, back, read64}
+use Rattle.track.specs.Laws.Cut.{lives-in-order, lives-never}
 use Rattle.track.proofs.interval.Interval.lives.Statement.{statement}
 use Rattle.track.proofs.interval.Interval.lives.Tie as tie
 

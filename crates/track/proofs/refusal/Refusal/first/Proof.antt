@@ -3,8 +3,9 @@ use lib.IntN.{pos}
 use mir.Syntax.{w32}
 use mir.Val.{toZ, ofZ}
 use borrow.Author.Needs.{needs}
-use Rattle.whole.specs.Within.{word-back}
-use Rattle.track.specs.Refusals.{number, refused-not-zero, first-is-first, first-is-second}
+use Rattle.whole.specs.Laws.Within.{word-back}
+use Rattle.track.specs.Refusals.{number}
+use Rattle.track.specs.Laws.Refusals.{refused-not-zero, first-is-first, first-is-second}
 use Rattle.track.proofs.refusal.Refusal.first.Statement.{statement}
 use Rattle.track.proofs.refusal.Refusal.first.Tie as tie
 

@@ -1,6 +1,6 @@
 use mathlib.Core.Path.{sym, ap, _∙_}
 use lib.IntN.{pos}
-use Rattle.whole.specs.Within.{word-back}
+use Rattle.whole.specs.Laws.Within.{word-back}
 use Rattle.tree.specs.Steps.{outcomeNumber}
 use borrow.Author.Needs.{needs}
 use Rattle.tree.proofs.outcome.Outcome.number.Statement.{statement}

@@ -1,0 +1,3 @@
+pub mod TableCalls
+pub mod SheetCalls
+pub mod ChangeCalls

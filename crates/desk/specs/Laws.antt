@@ -1,0 +1,4 @@
+pub mod Talking
+pub mod Turning
+pub mod Running
+pub mod Begun

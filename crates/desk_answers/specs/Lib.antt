@@ -1,0 +1,4 @@
+pub mod Decimal
+pub mod Answers
+pub mod Inner
+pub mod Laws

@@ -1,0 +1,4 @@
+pub mod Spells
+pub mod Forms
+pub mod Inner
+pub mod Laws

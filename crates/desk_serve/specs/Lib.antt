@@ -1,0 +1,4 @@
+pub mod Answered
+pub mod Served
+pub mod Inner
+pub mod Laws

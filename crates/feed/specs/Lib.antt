@@ -1,4 +1,0 @@
-pub mod Parting
-pub mod PartingLaws
-pub mod Held
-pub mod HeldLaws

@@ -1,0 +1,7 @@
+pub mod NextLive
+pub mod Leafed
+pub mod LiveCells
+pub mod Leafing
+pub mod Through
+pub mod LeafingList
+pub mod Search

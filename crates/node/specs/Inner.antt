@@ -1,0 +1,4 @@
+pub mod Pass
+pub mod Change
+pub mod ChangeAt
+pub mod Made

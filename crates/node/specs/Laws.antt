@@ -1,0 +1,6 @@
+pub mod Entry
+pub mod Ninth
+pub mod Change
+pub mod ChangeAt
+pub mod Made
+pub mod Pass

@@ -1,0 +1,4 @@
+pub mod Refused
+pub mod Replies
+pub mod Together
+pub mod Same

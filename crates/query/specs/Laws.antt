@@ -1,0 +1,7 @@
+pub mod Queried
+pub mod Answering
+pub mod Few
+pub mod Finding
+pub mod Gathering
+pub mod IdsWritten
+pub mod Opening

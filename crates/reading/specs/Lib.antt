@@ -1,4 +1,0 @@
-pub mod Reads
-pub mod ReadsLaws
-pub mod Filling
-pub mod ThereAndBack

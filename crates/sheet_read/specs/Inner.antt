@@ -1,0 +1,2 @@
+pub mod ReadingSteps
+pub mod Filling

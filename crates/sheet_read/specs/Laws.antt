@@ -1,0 +1,3 @@
+pub mod ThereAndBack
+pub mod Filling
+pub mod ReadingSteps

@@ -1,0 +1,6 @@
+pub mod Frame
+pub mod ScanParts
+pub mod Scan
+pub mod Ready
+pub mod SoundBy
+pub mod FreshMade

@@ -1,0 +1,9 @@
+pub mod Header
+pub mod Reach
+pub mod Covers
+pub mod Edges
+pub mod Counts
+pub mod Frame
+pub mod FreshMade
+pub mod Ready
+pub mod ScanParts

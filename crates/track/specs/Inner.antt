@@ -1,0 +1,4 @@
+pub mod Cut
+pub mod Decides
+pub mod HullRange
+pub mod Small

@@ -1,0 +1,11 @@
+pub mod Answer
+pub mod TracksHold
+pub mod Hull
+pub mod Accepted
+pub mod Numbers
+pub mod Query
+pub mod Refusals
+pub mod Small
+pub mod Cut
+pub mod Decides
+pub mod HullRange

@@ -1,0 +1,12 @@
+pub mod Steps
+pub mod Renewed
+pub mod SoundWhole
+pub mod Stepping
+pub mod Clear
+pub mod Grow
+pub mod Headed
+pub mod Holding
+pub mod Outcomes
+pub mod PutCell
+pub mod Settle
+pub mod StayingCells

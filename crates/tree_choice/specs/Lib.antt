@@ -1,0 +1,5 @@
+pub mod Area
+pub mod Child
+pub mod Parting
+pub mod Laws
+pub mod Inner

@@ -1,0 +1,11 @@
+pub mod Weights
+pub mod InnerEntries
+pub mod Places
+pub mod Moved
+pub mod Climb
+pub mod Used
+pub mod PutIn
+pub mod TakeOut
+pub mod Wholeness
+pub mod Enter
+pub mod Goes

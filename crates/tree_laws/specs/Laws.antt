@@ -1,0 +1,15 @@
+pub mod Regroup
+pub mod Leaf
+pub mod Root
+pub mod Tall
+pub mod Goes
+pub mod Climb
+pub mod Enter
+pub mod InnerEntries
+pub mod Moved
+pub mod Places
+pub mod PutIn
+pub mod TakeOut
+pub mod Used
+pub mod Weights
+pub mod Wholeness

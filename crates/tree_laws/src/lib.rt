@@ -1,0 +1,1 @@
+// Laws in specs/, and no code.

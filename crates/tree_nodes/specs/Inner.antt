@@ -1,0 +1,10 @@
+pub mod FirstFree
+pub mod EntryAfresh
+pub mod Kept
+pub mod Shift
+pub mod Marked
+pub mod PartChild
+pub mod Way
+pub mod Puts
+pub mod Mend
+pub mod Takes

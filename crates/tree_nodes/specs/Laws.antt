@@ -1,0 +1,10 @@
+pub mod AtNode
+pub mod PartedTree
+pub mod EntryAfresh
+pub mod FirstFree
+pub mod Kept
+pub mod Marked
+pub mod PartChild
+pub mod Puts
+pub mod Shift
+pub mod Way

@@ -1,0 +1,7 @@
+pub mod Difference
+pub mod Order
+pub mod Lists
+pub mod Rising
+pub mod Tells
+pub mod Within
+pub mod Times

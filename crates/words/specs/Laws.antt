@@ -1,0 +1,3 @@
+pub mod Parts
+pub mod Layout
+pub mod Words

@@ -1,4 +1,0 @@
-pub mod Written
-pub mod Passes
-pub mod WrittenLaws
-pub mod SheetWritten
