@@ -3,16 +3,17 @@ use mathlib.Core.Path.{_≡_}
 use mathlib.Core.List.{List}
 use Prim.Native.Nat.{ℕ}
 use lib.IntN.{ℤ, pos}
+use Rattle.track.specs.declared.report.Report.{Report}
 use Rattle.tree.specs.Steps.{ReportSteps, DropSteps}
 
--- r is the number of a report to the table w, which leaves v
-pub record ReportGives (w : List ℤ) (id x y vx vy minute expiry r : ℤ) (v : List ℤ) : Type 0 where
+-- z is the number of a report to the table w, which leaves v
+pub record ReportGives (w : List ℤ) (r : Report) (z : ℤ) (v : List ℤ) : Type 0 where
   pub number : ℕ
-  pub is : r ≡ pos number
-  pub steps : ReportSteps w id x y vx vy minute expiry number v
+  pub is : z ≡ pos number
+  pub steps : ReportSteps w r number v
 
--- r is the number of a drop from the table w, which leaves v
-pub record DropGives (w : List ℤ) (id minute r : ℤ) (v : List ℤ) : Type 0 where
+-- z is the number of a drop from the table w, which leaves v
+pub record DropGives (w : List ℤ) (id minute z : ℤ) (v : List ℤ) : Type 0 where
   pub number : ℕ
-  pub is : r ≡ pos number
+  pub is : z ≡ pos number
   pub steps : DropSteps w id minute number v

@@ -1,4 +1,3 @@
-pub mod MovingAnswer
 pub mod TableCalls
 pub mod SheetCalls
 pub mod ChangeCalls

@@ -1,6 +1,8 @@
 // The calls that change a table.
+use track::report::report_from;
 use tree::change::drop;
 use tree::change::report;
+ghost use Rattle.track.specs.Report.{reportFrom};
 ghost use Rattle.calls.specs.ChangeCalls.{ReportGives, DropGives};
 
 // Puts a cell in, in the place of a live one of the same identifier: 0, or the refusal's number.
@@ -15,9 +17,10 @@ pub extern "C" fn bradawlet_report(
     minute: i32,
     expiry: i32,
 ) -> i32
-    ensures { λ r. ⌜ ReportGives (now (table .entry)) id x y vx vy minute expiry r (now (table .exit)) ⌝ }
+    ensures { λ r. ⌜ ReportGives (now (table .entry)) (reportFrom id x y vx vy minute expiry) r (now (table .exit)) ⌝ }
 {
-    let outcome = report(table, id, x, y, vx, vy, minute, expiry);
+    let made = report_from(id, x, y, vx, vy, minute, expiry);
+    let outcome = report(table, made);
     outcome.number()
 }
 

@@ -6,13 +6,16 @@ use track::cell::Cell;
 use track::meeting::answer;
 use track::minute::Minute;
 use track::queries::Query;
+use track::queries::query_from;
+use track::queries::window_from;
+use track::report::report_from;
 use words::number;
-ghost use lib.Signed.{_≤ℤ_, _<ℤ_};
+ghost use Rattle.track.specs.Answer.{movingAnswers};
 ghost use Rattle.track.specs.Query.{queryFrom, windowFrom};
 ghost use Rattle.track.specs.Refusals.{Gives};
+ghost use Rattle.track.specs.Report.{reportFrom};
 ghost use Rattle.query.specs.Inner.Few.{Few};
-ghost use Rattle.calls.specs.MovingAnswer.{movingAnswers};
-ghost use Rattle.calls.specs.TableCalls.{FreshGives, InNumbers, QueryGives};
+ghost use Rattle.calls.specs.TableCalls.{FreshGives, InNumbers, WindowGives, MovingGives};
 
 pub mod changes;
 pub mod sheets;
@@ -38,12 +41,11 @@ pub extern "C" fn bradawlet_meets_moving(
     ylow2: i32,
     yhigh2: i32,
 ) -> i32
-    ensures { λ r. ⌜ Gives (movingAnswers id x y vx vy minute expiry start end xlow xhigh ylow yhigh xlow2 xhigh2 ylow2 yhigh2) r ⌝ }
+    ensures { λ r. ⌜ Gives (movingAnswers (reportFrom id x y vx vy minute expiry) (queryFrom start end xlow xhigh ylow yhigh xlow2 xhigh2 ylow2 yhigh2)) r ⌝ }
 {
     let first = Minute::FIRST;
-    let reported = Cell::reported(first.at, id, x, y, vx, vy, minute, expiry);
-    let asked = Query::moving(
-        minute,
+    let report = report_from(id, x, y, vx, vy, minute, expiry);
+    let q = query_from(
         start,
         end,
         xlow,
@@ -55,6 +57,8 @@ pub extern "C" fn bradawlet_meets_moving(
         ylow2,
         yhigh2,
     );
+    let reported = Cell::reported(first.at, report);
+    let asked = Query::moving(minute, q);
     answer(reported, asked)
 }
 
@@ -107,9 +111,10 @@ pub extern "C" fn bradawlet_window(
     hits: &mut i32,
     opened: &mut i32,
 ) -> i32
-    ensures { λ r. ⌜ QueryGives (now (table .entry)) (end <ℤ start) (windowFrom start end xlow xhigh ylow yhigh) (now (list .entry)) r (now (hits .exit)) (now (opened .exit)) (now (list .exit)) ⌝ }
+    ensures { λ r. ⌜ WindowGives (now (table .entry)) (windowFrom start end xlow xhigh ylow yhigh) (now (list .entry)) r (now (hits .exit)) (now (opened .exit)) (now (list .exit)) ⌝ }
 {
-    let answer = query::window(table, list, start, end, xlow, xhigh, ylow, yhigh);
+    let q = window_from(start, end, xlow, xhigh, ylow, yhigh);
+    let answer = query::window(table, list, q);
     in_numbers(answer, hits, opened)
 }
 
@@ -131,11 +136,9 @@ pub extern "C" fn bradawlet_moving(
     hits: &mut i32,
     opened: &mut i32,
 ) -> i32
-    ensures { λ r. ⌜ QueryGives (now (table .entry)) (end ≤ℤ start) (queryFrom start end xlow xhigh ylow yhigh xlow2 xhigh2 ylow2 yhigh2) (now (list .entry)) r (now (hits .exit)) (now (opened .exit)) (now (list .exit)) ⌝ }
+    ensures { λ r. ⌜ MovingGives (now (table .entry)) (queryFrom start end xlow xhigh ylow yhigh xlow2 xhigh2 ylow2 yhigh2) (now (list .entry)) r (now (hits .exit)) (now (opened .exit)) (now (list .exit)) ⌝ }
 {
-    let answer = query::moving(
-        table,
-        list,
+    let q = query_from(
         start,
         end,
         xlow,
@@ -147,5 +150,6 @@ pub extern "C" fn bradawlet_moving(
         ylow2,
         yhigh2,
     );
+    let answer = query::moving(table, list, q);
     in_numbers(answer, hits, opened)
 }

@@ -7,15 +7,15 @@ use Prim.Native.Nat.{ℕ, _≤_, _<_}
 use lib.IntN.{ℤ, pos}
 use lib.ListN.{length, take}
 use lib.Signed.{_<ℤ_}
-use Rattle.desk_feed.specs.Lines.{NoFeed, lastLine}
-use Rattle.desk_feed.specs.Held.{Held}
+use Rattle.desk_lines.specs.Lines.{NoFeed, lastLine}
+use Rattle.desk_lines.specs.LineHeld.{LineHeld}
 use Rattle.desk_serve.specs.Answered.{Session}
 use Rattle.desk_serve.specs.Served.{Heard}
 
 -- whatever line was begun, all of these bytes are heard, with some answers
 abbrev pub HearsAll : List ℤ → List ℕ → ℕ → List ℕ → List ℤ → List ℕ → ℕ → Type 0
 HearsAll w buffer held bytes v buffer′ held′ =
-    (begun : List ℕ) → NoFeed begun → Held buffer held begun → (answers : List ℕ) × Heard w begun bytes v answers buffer′ held′
+    (begun : List ℕ) → NoFeed begun → LineHeld buffer held begun → (answers : List ℕ) × Heard w begun bytes v answers buffer′ held′
 
 -- the first `far` bytes of a piece are heard. `told` says whether every answer was taken by standard output; if so, that is the whole piece
 pub record Talked (w : List ℤ) (buffer : List ℕ) (held : ℕ) (piece : List ℕ) (v : List ℤ) (buffer′ : List ℕ) (held′ : ℕ) (told : Bool) : Type 0 where
@@ -27,7 +27,7 @@ pub record Talked (w : List ℤ) (buffer : List ℕ) (held : ℕ) (piece : List 
 
 -- the end of the input: whatever is held is a line, if there is any, and it is answered
 abbrev pub Finished : List ℤ → List ℕ → ℕ → List ℤ → Type 0
-Finished w buffer held v = (answers : List ℕ) × ((rest : List ℕ) → Held buffer held rest → Session w (lastLine rest) v answers)
+Finished w buffer held v = (answers : List ℕ) × ((rest : List ℕ) → LineHeld buffer held rest → Session w (lastLine rest) v answers)
 
 -- one turn. `got` is what the read answered: below 0 if it failed, 0 at the end of the input, else how many bytes of the piece came in.
 -- `on` says whether the desk goes on reading

@@ -1,4 +1,5 @@
 // The desk: lines from standard input, an answer to each on standard output.
+use desk_serve::DESK_CELLS;
 use desk_serve::serving::end;
 use desk_serve::serving::serve;
 use libc::STDERR_FILENO;
@@ -9,12 +10,16 @@ ghost use mathlib.Core.Path.{_≡_};
 ghost use Prim.Native.Nat.{_-_, _^_};
 ghost use lib.IntN.{pos};
 ghost use lib.ListN.{length};
-ghost use Rattle.table.specs.Header.{greatestCapacity, wordsFor};
+ghost use Rattle.table.specs.Header.{wordsFor};
 ghost use Rattle.table.specs.Fresh.{IsFresh};
+ghost use Rattle.desk_serve.specs.Answered.{deskCells};
 ghost use Rattle.desk_serve.specs.Served.{CanServe};
 ghost use Rattle.desk.specs.Talked.{Talked, Finished, Turned, Ran};
 
-const CAPACITY: i32 = 256;
+// The words of a table for the desk's cells.
+const TABLE_WORDS: usize = 16 + 96 * (DESK_CELLS / 2 + 1);
+
+const CAPACITY: i32 = DESK_CELLS as i32;
 
 // Whether standard output took the answers. Where it did not, a line on standard error says so.
 fn say(answers: &[u8]) -> bool {
@@ -138,17 +143,17 @@ fn run(
     }
 }
 
-// A fresh table for as many cells as there can be.
+// A fresh table for the desk's cells.
 fn begin(t: &mut [i32])
-    requires { ⌜ length (now t) ≡ wordsFor greatestCapacity ⌝ }
-    ensures { λ _. ⌜ IsFresh (pos greatestCapacity) (now (t .entry)) (now (t .exit)) ⌝ }
+    requires { ⌜ length (now t) ≡ wordsFor deskCells ⌝ }
+    ensures { λ _. ⌜ IsFresh (pos deskCells) (now (t .entry)) (now (t .exit)) ⌝ }
 {
     fresh(t, CAPACITY);
 }
 
 fn main() {
-    let mut table = [0i32; 12400];
-    let mut list = [0i32; 256];
+    let mut table = [0i32; TABLE_WORDS];
+    let mut list = [0i32; DESK_CELLS];
     let mut line = [0u8; 129];
     let mut held = 0;
     let mut piece = io::large_buffer();

@@ -1,3 +1,2 @@
-pub mod Decimal
-pub mod Putting
 pub mod AnswerLines
+pub mod PutLines

@@ -1,4 +1,2 @@
-pub mod Decimal
-pub mod Answers
-pub mod Inner
+pub mod AnswerLines
 pub mod Laws

@@ -1,55 +1,23 @@
 // The desk's answers, spelt into a lent buffer, each with its line feed. A buffer that might be too short is refused: nothing is
 // written, and the answer is 0; else the answer is how many bytes were written.
+use decimal::spelling::put_decimal;
+use decimal::spelling::put_text;
 ghost use mathlib.Core.Path.{_≡_};
 ghost use Prim.Native.Nat.{_+_, _*_, _^_, _≤_, _<_};
 ghost use lib.ListN.{length, take};
-ghost use Rattle.desk_answers.specs.Decimal.{Decimal, Listed};
-ghost use Rattle.desk_answers.specs.Answers.{IsLine, okLine, badLine, NoLine, HitsLine, Spelt};
-ghost use Rattle.desk_answers.specs.Inner.Putting.{EndsBy, Put};
+ghost use Rattle.decimal.specs.Inner.PutBytes.{Put, TheseBytes};
+ghost use Rattle.desk_answers.specs.AnswerLines.{okLine, badLine, Spaced, NoLine, HitsLine, Spelt};
 
-// EndsBy for a word of the answers, ten digits and a line feed; and for a space and ten digits.
+// Room for a word of the answers, ten digits and a line feed; and for a space and ten digits.
 const NO_ROOM: usize = 14;
 
-const HITS_ROOM: usize = 16;
+pub const HITS_ROOM: usize = 16;
 
-const FIELD_ROOM: usize = 11;
-
-fn digit(d: usize) -> u8
-    requires { ⌜ d ≤ 9 ⌝ }
-    ensures { λ r. ⌜ r ≡ 48 + d ⌝ }
-{
-    48 + d as u8
-}
-
-// Each writer takes the place of its first byte and answers the place past its last.
-fn put_word(out: &mut [u8], at: usize, word: &[u8]) -> usize
-    requires { ⌜ at + length (now word) ≤ length (now out) ⌝ }
-    ensures { λ r. ⌜ Put (IsLine (now (word .entry))) (now (out .entry)) at (now (out .exit)) r ⌝ }
-{
-    let mut i = 0;
-    while i < word.len() {
-        out[at + i] = word[i];
-        i += 1;
-    }
-    at + word.len()
-}
-
-fn put_decimal(out: &mut [u8], at: usize, n: usize) -> usize
-    requires { ⌜ EndsBy (Decimal n) at (length (now out)) ⌝ }
-    ensures { λ r. ⌜ Put (Decimal n) (now (out .entry)) at (now (out .exit)) r ⌝ }
-{
-    if n < 10 {
-        out[at] = digit(n);
-        return at + 1;
-    }
-    let last = put_decimal(out, at, n / 10);
-    out[last] = digit(n % 10);
-    last + 1
-}
+pub const FIELD_ROOM: usize = 11;
 
 fn put_list(out: &mut [u8], at: usize, list: &[i32], count: usize) -> usize
     requires { ⌜ (count ≤ length (now list)) × (at + 11 * count ≤ length (now out)) ⌝ }
-    ensures { λ r. ⌜ (Put (Listed (take count (now (list .entry)))) (now (out .entry)) at (now (out .exit)) r) × (r ≤ at + 11 * count) ⌝ }
+    ensures { λ r. ⌜ (Put (Spaced (take count (now (list .entry)))) (now (out .entry)) at (now (out .exit)) r) × (r ≤ at + 11 * count) ⌝ }
 {
     let mut end = at;
     let mut k = 0;
@@ -61,22 +29,25 @@ fn put_list(out: &mut [u8], at: usize, list: &[i32], count: usize) -> usize
     end
 }
 
-pub fn spell_ok(out: &mut [u8]) -> usize
-    ensures { λ r. ⌜ Spelt 3 (IsLine okLine) (now (out .entry)) (now (out .exit)) r ⌝ }
+fn spell_word(out: &mut [u8], word: &[u8]) -> usize
+    ensures { λ r. ⌜ Spelt (length (now (word .entry))) (TheseBytes (now (word .entry))) (now (out .entry)) (now (out .exit)) r ⌝ }
 {
-    if out.len() < 3 {
+    if out.len() < word.len() {
         return 0;
     }
-    put_word(out, 0, b"ok\n")
+    put_text(out, 0, word)
+}
+
+pub fn spell_ok(out: &mut [u8]) -> usize
+    ensures { λ r. ⌜ Spelt 3 (λ line. line ≡ okLine) (now (out .entry)) (now (out .exit)) r ⌝ }
+{
+    spell_word(out, b"ok\n")
 }
 
 pub fn spell_bad(out: &mut [u8]) -> usize
-    ensures { λ r. ⌜ Spelt 4 (IsLine badLine) (now (out .entry)) (now (out .exit)) r ⌝ }
+    ensures { λ r. ⌜ Spelt 4 (λ line. line ≡ badLine) (now (out .entry)) (now (out .exit)) r ⌝ }
 {
-    if out.len() < 4 {
-        return 0;
-    }
-    put_word(out, 0, b"bad\n")
+    spell_word(out, b"bad\n")
 }
 
 // A refusal's number.
@@ -86,9 +57,9 @@ pub fn spell_no(out: &mut [u8], number: i32) -> usize
     if out.len() < NO_ROOM {
         return 0;
     }
-    let at = put_word(out, 0, b"no ");
+    let at = put_text(out, 0, b"no ");
     let end = put_decimal(out, at, words::place(number));
-    put_word(out, end, b"\n")
+    put_text(out, end, b"\n")
 }
 
 // The first `hits` identifiers of the list.
@@ -99,8 +70,8 @@ pub fn spell_hits(out: &mut [u8], list: &[i32], hits: usize) -> usize
     if out.len() < HITS_ROOM + FIELD_ROOM * hits {
         return 0;
     }
-    let at = put_word(out, 0, b"hits ");
+    let at = put_text(out, 0, b"hits ");
     let fields = put_decimal(out, at, hits);
     let end = put_list(out, fields, list, hits);
-    put_word(out, end, b"\n")
+    put_text(out, end, b"\n")
 }

@@ -1,14 +1,12 @@
--- Which lines of bytes, without their line feed, are which form with which numbers.
+-- Which lines of bytes, without their line feed, are which form, and what their numbers say.
 use mathlib.Core.Path.{_≡_}
 use mathlib.Core.Logic.{_⊎_}
 use mathlib.Core.List.{List, [], _∷_, _++_}
 use Prim.Native.Nat.{ℕ}
 use lib.IntN.{ℤ}
-use Rattle.desk_lines.specs.Spells.{Spells}
-use Rattle.desk_lines.specs.declared.CellNumbers.{CellNumbers}
-use Rattle.desk_lines.specs.declared.DropNumbers.{DropNumbers}
-use Rattle.desk_lines.specs.declared.WhenNumbers.{WhenNumbers}
-use Rattle.desk_lines.specs.declared.MoveNumbers.{MoveNumbers}
+use Rattle.track.specs.Query.{windowFrom, queryFrom}
+use Rattle.track.specs.Report.{reportFrom}
+use Rattle.decimal.specs.Spells.{Spells}
 use Rattle.desk_lines.specs.declared.Line.{Line}
 use Rattle.desk_lines.specs.declared.Line.the-variants.{Cell, Drop, When, Move, Bad}
 
@@ -36,30 +34,23 @@ whenWord = 119 ∷ 104 ∷ 101 ∷ 110 ∷ []
 abbrev pub moveWord : List ℕ
 moveWord = 109 ∷ 111 ∷ 118 ∷ 101 ∷ []
 
--- the numbers of each form, in the order of the line
-abbrev pub cellNumbers : CellNumbers → List ℤ
-cellNumbers n = n .id ∷ n .x ∷ n .y ∷ n .vx ∷ n .vy ∷ n .minute ∷ n .expiry ∷ []
-
-abbrev pub dropNumbers : DropNumbers → List ℤ
-dropNumbers n = n .id ∷ n .minute ∷ []
-
-abbrev pub whenNumbers : WhenNumbers → List ℤ
-whenNumbers n = n .start ∷ n .end ∷ n .xlow ∷ n .xhigh ∷ n .ylow ∷ n .yhigh ∷ []
-
-abbrev pub moveNumbers : MoveNumbers → List ℤ
-moveNumbers n =
-    n .start ∷ n .end ∷ n .xlow ∷ n .xhigh ∷ n .ylow ∷ n .yhigh ∷ n .xlow2 ∷ n .xhigh2 ∷ n .ylow2 ∷ n .yhigh2 ∷ []
-
--- the line is this form with these numbers. Bad is no form: a line is bad where nothing above makes it one, as with two spaces together,
+-- which form a line is, with what its numbers say. Bad is no form: a line is bad where nothing here makes it one, as with two spaces together,
 -- a space at either end, a tab, a plus, ten digits, a field too few or too many, or a capital letter
-abbrev pub IsForm : Line → List ℕ → Type 0
-IsForm (Cell n) line = Form cellWord (cellNumbers n) line
-IsForm (Drop n) line = Form dropWord (dropNumbers n) line
-IsForm (When n) line = Form whenWord (whenNumbers n) line
-IsForm (Move n) line = Form moveWord (moveNumbers n) line
-IsForm Bad line = ⊥
+pub data IsForm : Line → List ℕ → Type 0 where
+  -- cell id x y vx vy minute expiry
+  cell : {line : List ℕ} {id x y vx vy minute expiry : ℤ} → Form cellWord (id ∷ x ∷ y ∷ vx ∷ vy ∷ minute ∷ expiry ∷ []) line
+      → IsForm (Cell (reportFrom id x y vx vy minute expiry)) line
+  -- drop id minute
+  drop : {line : List ℕ} {id minute : ℤ} → Form dropWord (id ∷ minute ∷ []) line → IsForm (Drop (record { id = id; minute = minute })) line
+  -- when start end xlow xhigh ylow yhigh
+  when : {line : List ℕ} {start end xlow xhigh ylow yhigh : ℤ} → Form whenWord (start ∷ end ∷ xlow ∷ xhigh ∷ ylow ∷ yhigh ∷ []) line
+      → IsForm (When (windowFrom start end xlow xhigh ylow yhigh)) line
+  -- move with the same six and four edges more
+  move : {line : List ℕ} {start end xlow xhigh ylow yhigh xlow2 xhigh2 ylow2 yhigh2 : ℤ}
+      → Form moveWord (start ∷ end ∷ xlow ∷ xhigh ∷ ylow ∷ yhigh ∷ xlow2 ∷ xhigh2 ∷ ylow2 ∷ yhigh2 ∷ []) line
+      → IsForm (Move (queryFrom start end xlow xhigh ylow yhigh xlow2 xhigh2 ylow2 yhigh2)) line
 
 -- what reading a line answers: the form that it is, with its numbers, and Bad where it is none
-pub record Reads (line : List ℕ) (r : Line) : Type 0 where
+pub record ReadsLine (line : List ℕ) (r : Line) : Type 0 where
   pub right : (r ≡ Bad) ⊎ IsForm r line
   pub only : (f : Line) → IsForm f line → f ≡ r

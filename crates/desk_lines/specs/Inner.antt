@@ -1,2 +1,2 @@
-pub mod Runs
 pub mod FieldsRead
+pub mod Numbered

@@ -1,6 +1,7 @@
-pub mod Runs
-pub mod Spells
+pub mod Fields
 pub mod FieldsRead
 pub mod Passing
 pub mod Forms
 pub mod Examples
+pub mod Lines
+pub mod LineHeld

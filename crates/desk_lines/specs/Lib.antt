@@ -1,4 +1,5 @@
-pub mod Spells
 pub mod Forms
+pub mod Lines
+pub mod LineHeld
 pub mod Inner
 pub mod Laws

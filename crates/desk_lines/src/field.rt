@@ -1,15 +1,15 @@
 // The word that a line begins with, and the fields after it.
-use crate::number::Found;
-use crate::number::number;
+use decimal::reading::NumberFound;
+use decimal::reading::read_number;
 ghost use mathlib.Core.Path.{_≡_};
 ghost use mathlib.Core.List.{_++_};
 ghost use Prim.Native.Nat.{_≤_};
 ghost use lib.ListN.{length, drop};
 ghost use Rattle.whole.specs.Tells.{Tells};
-ghost use Rattle.desk_lines.specs.Inner.FieldsRead.{FieldRead, FieldsRead};
+ghost use Rattle.desk_lines.specs.Inner.FieldsRead.{FieldRead, FieldsRead, FormRead};
 
 // Whether the line begins with the word.
-pub fn starts(line: &[u8], word: &[u8]) -> bool
+fn starts(line: &[u8], word: &[u8]) -> bool
     ensures { λ r. ⌜ Tells r (now (line .entry) ≡ now (word .entry) ++ drop (length (now (word .entry))) (now (line .entry))) ⌝ }
 {
     if line.len() < word.len() {
@@ -26,28 +26,28 @@ pub fn starts(line: &[u8], word: &[u8]) -> bool
 }
 
 // One space, and the number after it.
-fn field(line: &[u8], at: usize) -> Found
+fn field(line: &[u8], at: usize) -> NumberFound
     requires { ⌜ at ≤ length (now line) ⌝ }
     ensures { λ r. ⌜ FieldRead (now (line .entry)) at r ⌝ }
 {
     if line.len() <= at {
-        return Found::Bad;
+        return NumberFound::Bad;
     }
     if line[at] != b' ' {
-        return Found::Bad;
+        return NumberFound::Bad;
     }
-    number(line, at + 1)
+    read_number(line, at + 1)
 }
 
 // Reads a field for each place of `out`, and tells whether these are all that the line has from the cursor on.
-pub fn fields(line: &[u8], from: usize, out: &mut [i32]) -> bool
+fn fields(line: &[u8], from: usize, out: &mut [i32]) -> bool
     requires { ⌜ from ≤ length (now line) ⌝ }
     ensures { λ r. ⌜ FieldsRead (drop from (now (line .entry))) (now (out .entry)) (now (out .exit)) r ⌝ }
 {
     let mut at = from;
     let mut k = 0;
     while k < out.len() {
-        let Found::Number(z, next) = field(line, at) else {
+        let NumberFound::Number(z, next) = field(line, at) else {
             return false;
         };
         out[k] = z;
@@ -55,4 +55,14 @@ pub fn fields(line: &[u8], from: usize, out: &mut [i32]) -> bool
         k += 1;
     }
     line.len() <= at
+}
+
+// Whether the line is the word with a field for each place of `out`, which has their numbers then.
+pub fn is_form(line: &[u8], word: &[u8], out: &mut [i32]) -> bool
+    ensures { λ r. ⌜ FormRead (now (word .entry)) (now (line .entry)) (now (out .entry)) (now (out .exit)) r ⌝ }
+{
+    if !starts(line, word) {
+        return false;
+    }
+    fields(line, word.len(), out)
 }

@@ -1,71 +1,34 @@
-// One line of the desk, read: which of the four forms it is, with its numbers, or none of them.
-use crate::field::fields;
-use crate::field::starts;
+// One line of the desk, read: which of the four forms it is, with what its numbers say, or none of them.
+use crate::field::is_form;
+use track::queries::Query;
+use track::queries::query_from;
+use track::queries::window_from;
+use track::report::Report;
 ghost use mathlib.Core.Path.{_≡_};
-ghost use mathlib.Core.List.{_++_};
-ghost use lib.ListN.{drop};
-ghost use Rattle.desk_lines.specs.Forms.{cellWord, dropWord, whenWord, moveWord, Reads};
+ghost use Rattle.desk_lines.specs.Forms.{ReadsLine};
+ghost use Rattle.desk_lines.specs.Inner.Numbered.{reportOf, dropOf, windowOf, movingOf};
 
+pub mod feed;
 pub mod field;
-pub mod number;
 
-pub struct CellNumbers {
-    pub id: i32,
-    pub x: i32,
-    pub y: i32,
-    pub vx: i32,
-    pub vy: i32,
-    pub minute: i32,
-    pub expiry: i32,
-}
-
+// A drop as it comes.
 pub struct DropNumbers {
     pub id: i32,
     pub minute: i32,
 }
 
-pub struct WhenNumbers {
-    pub start: i32,
-    pub end: i32,
-    pub xlow: i32,
-    pub xhigh: i32,
-    pub ylow: i32,
-    pub yhigh: i32,
-}
-
-pub struct MoveNumbers {
-    pub start: i32,
-    pub end: i32,
-    pub xlow: i32,
-    pub xhigh: i32,
-    pub ylow: i32,
-    pub yhigh: i32,
-    pub xlow2: i32,
-    pub xhigh2: i32,
-    pub ylow2: i32,
-    pub yhigh2: i32,
-}
-
 pub enum Line {
-    Cell(CellNumbers),
+    Cell(Report),
     Drop(DropNumbers),
-    When(WhenNumbers),
-    Move(MoveNumbers),
+    When(Query),
+    Move(Query),
     Bad,
 }
 
-// Where a form's fields begin: each word has four letters.
-const PAST_WORD: usize = 4;
-
-fn read_cell(line: &[u8]) -> Line
-    requires { ⌜ now line ≡ cellWord ++ drop 4 (now line) ⌝ }
-    ensures { λ r. ⌜ Reads (now (line .entry)) r ⌝ }
+fn report_of(n: [i32; 7]) -> Report
+    ensures { λ r. ⌜ r ≡ reportOf n ⌝ }
 {
-    let mut n = [0i32; 7];
-    if !fields(line, PAST_WORD, &mut n) {
-        return Line::Bad;
-    }
-    Line::Cell(CellNumbers {
+    Report {
         id: n[0],
         x: n[1],
         y: n[2],
@@ -73,78 +36,49 @@ fn read_cell(line: &[u8]) -> Line
         vy: n[4],
         minute: n[5],
         expiry: n[6],
-    })
+    }
 }
 
-fn read_drop(line: &[u8]) -> Line
-    requires { ⌜ now line ≡ dropWord ++ drop 4 (now line) ⌝ }
-    ensures { λ r. ⌜ Reads (now (line .entry)) r ⌝ }
+fn drop_of(n: [i32; 2]) -> DropNumbers
+    ensures { λ r. ⌜ r ≡ dropOf n ⌝ }
 {
-    let mut n = [0i32; 2];
-    if !fields(line, PAST_WORD, &mut n) {
-        return Line::Bad;
-    }
-    Line::Drop(DropNumbers {
+    DropNumbers {
         id: n[0],
         minute: n[1],
-    })
+    }
 }
 
-fn read_when(line: &[u8]) -> Line
-    requires { ⌜ now line ≡ whenWord ++ drop 4 (now line) ⌝ }
-    ensures { λ r. ⌜ Reads (now (line .entry)) r ⌝ }
+fn window_of(n: [i32; 6]) -> Query
+    ensures { λ r. ⌜ r ≡ windowOf n ⌝ }
 {
-    let mut n = [0i32; 6];
-    if !fields(line, PAST_WORD, &mut n) {
-        return Line::Bad;
-    }
-    Line::When(WhenNumbers {
-        start: n[0],
-        end: n[1],
-        xlow: n[2],
-        xhigh: n[3],
-        ylow: n[4],
-        yhigh: n[5],
-    })
+    window_from(n[0], n[1], n[2], n[3], n[4], n[5])
 }
 
-fn read_move(line: &[u8]) -> Line
-    requires { ⌜ now line ≡ moveWord ++ drop 4 (now line) ⌝ }
-    ensures { λ r. ⌜ Reads (now (line .entry)) r ⌝ }
+fn moving_of(n: [i32; 10]) -> Query
+    ensures { λ r. ⌜ r ≡ movingOf n ⌝ }
 {
-    let mut n = [0i32; 10];
-    if !fields(line, PAST_WORD, &mut n) {
-        return Line::Bad;
-    }
-    Line::Move(MoveNumbers {
-        start: n[0],
-        end: n[1],
-        xlow: n[2],
-        xhigh: n[3],
-        ylow: n[4],
-        yhigh: n[5],
-        xlow2: n[6],
-        xhigh2: n[7],
-        ylow2: n[8],
-        yhigh2: n[9],
-    })
+    query_from(n[0], n[1], n[2], n[3], n[4], n[5], n[6], n[7], n[8], n[9])
 }
 
 // A line without its line feed.
 pub fn read(line: &[u8]) -> Line
-    ensures { λ r. ⌜ Reads (now (line .entry)) r ⌝ }
+    ensures { λ r. ⌜ ReadsLine (now (line .entry)) r ⌝ }
 {
-    if starts(line, b"cell") {
-        return read_cell(line);
+    let mut cell = [0i32; 7];
+    if is_form(line, b"cell", &mut cell) {
+        return Line::Cell(report_of(cell));
     }
-    if starts(line, b"drop") {
-        return read_drop(line);
+    let mut drop = [0i32; 2];
+    if is_form(line, b"drop", &mut drop) {
+        return Line::Drop(drop_of(drop));
     }
-    if starts(line, b"when") {
-        return read_when(line);
+    let mut window = [0i32; 6];
+    if is_form(line, b"when", &mut window) {
+        return Line::When(window_of(window));
     }
-    if starts(line, b"move") {
-        return read_move(line);
+    let mut moving = [0i32; 10];
+    if is_form(line, b"move", &mut moving) {
+        return Line::Move(moving_of(moving));
     }
     Line::Bad
 }

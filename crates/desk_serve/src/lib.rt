@@ -9,8 +9,8 @@ use desk_lines::read;
 ghost use mathlib.Core.Path.{_≡_};
 ghost use Prim.Native.Nat.{_≤_};
 ghost use lib.ListN.{length};
-ghost use Rattle.desk_answers.specs.Answers.{LineWritten};
-ghost use Rattle.desk_serve.specs.Answered.{longestLine, listPlaces, longestAnswer, Answered};
+ghost use Rattle.desk_answers.specs.AnswerLines.{LineWritten};
+ghost use Rattle.desk_serve.specs.Answered.{longestLine, deskCells, longestAnswer, Answered};
 ghost use Rattle.desk_serve.specs.Served.{CanServe};
 ghost use Rattle.desk_serve.specs.Inner.Serving.{AnswersHeld};
 
@@ -18,19 +18,22 @@ pub mod asking;
 pub mod serving;
 pub mod stepping;
 
+// The cells that the desk's table has room for, and the places of its list.
+pub const DESK_CELLS: usize = 256;
+
 const LONGEST_LINE: usize = 128;
 
 // A line without its line feed.
-fn answer(t: &mut [i32], list: &mut [i32], line: &[u8], out: &mut [u8]) -> usize
-    requires { ⌜ (length (now list) ≡ listPlaces) × (length (now line) ≤ longestLine) × (longestAnswer ≤ length (now out)) ⌝ }
+fn answer_line(t: &mut [i32], list: &mut [i32], line: &[u8], out: &mut [u8]) -> usize
+    requires { ⌜ (length (now list) ≡ deskCells) × (length (now line) ≤ longestLine) × (longestAnswer ≤ length (now out)) ⌝ }
     ensures { λ r. ⌜ LineWritten (Answered (now (t .entry)) (now (line .entry)) (now (t .exit))) (now (out .entry)) (now (out .exit)) r ⌝ }
 {
     let form = read(line);
     match form {
-        Line::Cell(n) => answer_cell(t, n, out),
-        Line::Drop(n) => answer_drop(t, n, out),
-        Line::When(n) => answer_when(t, list, n, out),
-        Line::Move(n) => answer_move(t, list, n, out),
+        Line::Cell(r) => answer_cell(t, r, out),
+        Line::Drop(d) => answer_drop(t, d, out),
+        Line::When(q) => answer_when(t, list, q, out),
+        Line::Move(q) => answer_move(t, list, q, out),
         Line::Bad => spell_bad(out),
     }
 }
@@ -49,5 +52,5 @@ pub fn answer_held(
     if LONGEST_LINE < held {
         return spell_bad(out);
     }
-    answer(t, list, &buffer[..held], out)
+    answer_line(t, list, &buffer[..held], out)
 }

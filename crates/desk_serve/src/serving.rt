@@ -1,16 +1,19 @@
 // Bytes of the input, taken in one by one; each line is answered at its line feed.
+use crate::DESK_CELLS;
 use crate::answer_held;
-use desk_feed::keep;
+use desk_answers::FIELD_ROOM;
+use desk_answers::HITS_ROOM;
+use desk_lines::feed::keep_byte;
 ghost use mathlib.Core.Path.{_≡_};
 ghost use Prim.Native.Nat.{_+_, _≤_};
 ghost use lib.ListN.{length};
-ghost use Rattle.desk_serve.specs.Answered.{longestLine, listPlaces, longestAnswer};
+ghost use Rattle.desk_serve.specs.Answered.{longestLine, deskCells, longestAnswer};
 ghost use Rattle.desk_serve.specs.Served.{CanServe, Serves, Ends};
 ghost use Rattle.desk_serve.specs.Inner.Serving.{TakesByte};
 
 const LINE_FEED: u8 = 10;
 
-const LONGEST_ANSWER: usize = 2832;
+const LONGEST_ANSWER: usize = HITS_ROOM + FIELD_ROOM * DESK_CELLS;
 
 // How many bytes of the line are held, and how many of the answers are written.
 pub struct Place {
@@ -31,13 +34,13 @@ fn take_byte(
     at: Place,
     b: u8,
 ) -> Place
-    requires { ⌜ (length (now list) ≡ listPlaces) × (length (now buffer) ≡ longestLine + 1) × (at .held ≤ length (now buffer)) × (at .written + longestAnswer ≤ length (now out)) ⌝ }
+    requires { ⌜ (length (now list) ≡ deskCells) × (length (now buffer) ≡ longestLine + 1) × (at .held ≤ length (now buffer)) × (at .written + longestAnswer ≤ length (now out)) ⌝ }
     ensures { λ r. ⌜ TakesByte b (now (t .entry)) (now (buffer .entry)) (at .held) (now (out .entry)) (at .written) (now (t .exit)) (now (buffer .exit)) (r .held) (now (out .exit)) (r .written) ⌝ }
 {
     let written = at.written;
     if b != LINE_FEED {
         return Place {
-            held: keep(buffer, at.held, b),
+            held: keep_byte(buffer, at.held, b),
             written,
         };
     }

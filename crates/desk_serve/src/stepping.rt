@@ -1,18 +1,18 @@
 // Reports and drops, answered in words.
 use desk_answers::spell_no;
 use desk_answers::spell_ok;
-use desk_lines::CellNumbers;
 use desk_lines::DropNumbers;
+use track::report::Report;
 use tree::change::drop;
 use tree::change::report;
 use tree::outcome::Outcome;
 ghost use Prim.Native.Nat.{_≤_};
 ghost use lib.ListN.{length};
 ghost use Rattle.tree.specs.Steps.{ReportSteps, DropSteps, outcomeNumber};
-ghost use Rattle.desk_answers.specs.Answers.{LineWritten};
+ghost use Rattle.desk_answers.specs.AnswerLines.{LineWritten};
 ghost use Rattle.desk_serve.specs.Answered.{longestAnswer, OutcomeLine, StepLine};
 
-fn tell(outcome: Outcome, out: &mut [u8]) -> usize
+fn tell_outcome(outcome: Outcome, out: &mut [u8]) -> usize
     requires { ⌜ longestAnswer ≤ length (now out) ⌝ }
     ensures { λ r. ⌜ LineWritten (OutcomeLine (outcomeNumber outcome)) (now (out .entry)) (now (out .exit)) r ⌝ }
 {
@@ -22,18 +22,18 @@ fn tell(outcome: Outcome, out: &mut [u8]) -> usize
     }
 }
 
-pub fn answer_cell(t: &mut [i32], n: CellNumbers, out: &mut [u8]) -> usize
+pub fn answer_cell(t: &mut [i32], r: Report, out: &mut [u8]) -> usize
     requires { ⌜ longestAnswer ≤ length (now out) ⌝ }
-    ensures { λ r. ⌜ LineWritten (StepLine (λ k. ReportSteps (now (t .entry)) (n .id) (n .x) (n .y) (n .vx) (n .vy) (n .minute) (n .expiry) k (now (t .exit)))) (now (out .entry)) (now (out .exit)) r ⌝ }
+    ensures { λ many. ⌜ LineWritten (StepLine (λ n. ReportSteps (now (t .entry)) r n (now (t .exit)))) (now (out .entry)) (now (out .exit)) many ⌝ }
 {
-    let outcome = report(t, n.id, n.x, n.y, n.vx, n.vy, n.minute, n.expiry);
-    tell(outcome, out)
+    let outcome = report(t, r);
+    tell_outcome(outcome, out)
 }
 
-pub fn answer_drop(t: &mut [i32], n: DropNumbers, out: &mut [u8]) -> usize
+pub fn answer_drop(t: &mut [i32], d: DropNumbers, out: &mut [u8]) -> usize
     requires { ⌜ longestAnswer ≤ length (now out) ⌝ }
-    ensures { λ r. ⌜ LineWritten (StepLine (λ k. DropSteps (now (t .entry)) (n .id) (n .minute) k (now (t .exit)))) (now (out .entry)) (now (out .exit)) r ⌝ }
+    ensures { λ many. ⌜ LineWritten (StepLine (λ n. DropSteps (now (t .entry)) (d .id) (d .minute) n (now (t .exit)))) (now (out .entry)) (now (out .exit)) many ⌝ }
 {
-    let outcome = drop(t, n.id, n.minute);
-    tell(outcome, out)
+    let outcome = drop(t, d.id, d.minute);
+    tell_outcome(outcome, out)
 }

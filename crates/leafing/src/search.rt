@@ -2,20 +2,22 @@
 use node::entry::cell;
 use node::entry::child;
 use node::entry::count;
-use table::scan::node_at;
+use table::header::clock;
+use table::header::height;
+use table::header::root;
+use table::nodes::node_at;
 use table::sound::is_sound;
 use track::cell::Cell;
 use track::refusal::Refusal;
-use words::place_at;
-use words::word;
 ghost use mathlib.Core.Path.{_≡_};
 ghost use mathlib.Core.List.{[], _∷_};
 ghost use lib.ListN.{drop};
 ghost use Rattle.track.specs.Refusals.{Gives};
 ghost use Rattle.table.specs.Header.{entriesAt};
 ghost use Rattle.table.specs.Sound.{Sound};
+ghost use Rattle.table.specs.Inner.Walk.{CanWalk};
 ghost use Rattle.leafing.specs.NextLive.{NextLive, Steps, openingReasons, lastAfter};
-ghost use Rattle.leafing.specs.Inner.Search.{Extends, Looks, CanLook};
+ghost use Rattle.leafing.specs.Inner.Search.{Extends, Looks};
 
 // The next cell, or none where no more are left.
 pub enum Next {
@@ -29,14 +31,13 @@ pub struct Sought {
     pub last: i32,
 }
 
-// Of the best until now and one cell more, that which comes next.
-fn nearer(s: Sought, best: Next, c: Cell) -> Next
+// Of the best until now and one cell more, that which comes next: the one with the lower identifier, if the cell is sought at all.
+fn lower(s: Sought, best: Next, c: Cell) -> Next
     ensures { λ r. ⌜ Extends s (c ∷ []) best r ⌝ }
 {
-    if c.expiry.at < s.clock {
-        return best;
-    }
-    if c.id <= s.last {
+    let in_life = s.clock <= c.expiry.at;
+    let above = s.last < c.id;
+    if !(in_life & above) {
         return best;
     }
     let Next::One(b) = best else {
@@ -45,21 +46,21 @@ fn nearer(s: Sought, best: Next, c: Cell) -> Next
     if b.id <= c.id { best } else { Next::One(c) }
 }
 
-// The best of what was found until now and of the cells beneath node i, from one of its entries on.
-fn nearest(t: &[i32], s: Sought, height: usize, i: usize, from: usize, best: Next) -> Next
-    requires { ⌜ CanLook (now t) height i ⌝ }
-    ensures { λ r. ⌜ Looks (entriesAt (now (t .entry))) s height (drop from (entriesAt (now (t .entry)) i)) best r ⌝ }
+// The best of what was found until now and of the cells beneath node i, which has h levels beneath it, from its entry k on.
+fn lowest_beneath(t: &[i32], s: Sought, h: usize, i: usize, k: usize, best: Next) -> Next
+    requires { ⌜ CanWalk (now t) h i ⌝ }
+    ensures { λ r. ⌜ Looks (entriesAt (now (t .entry))) s h (drop k (entriesAt (now (t .entry)) i)) best r ⌝ }
 {
     let node = node_at(t, i);
-    if count(node) <= from {
+    if count(node) <= k {
         return best;
     }
-    if height == 0 {
-        let better = nearer(s, best, cell(node, from));
-        return nearest(t, s, height, i, from + 1, better);
+    if h == 0 {
+        let better = lower(s, best, cell(node, k));
+        return lowest_beneath(t, s, h, i, k + 1, better);
     }
-    let below = nearest(t, s, height - 1, child(node, from), 0, best);
-    nearest(t, s, height, i, from + 1, below)
+    let below = lowest_beneath(t, s, h - 1, child(node, k), 0, best);
+    lowest_beneath(t, s, h, i, k + 1, below)
 }
 
 // The live cell of a sound table with the least identifier above the last.
@@ -68,10 +69,10 @@ pub fn next_of_sound(t: &[i32], last: i32) -> Next
     ensures { λ r. ⌜ NextLive (now (t .entry)) last r ⌝ }
 {
     let s = Sought {
-        clock: word(t, 1),
+        clock: clock(t),
         last,
     };
-    nearest(t, s, place_at(t, 3), place_at(t, 2), 0, Next::None)
+    lowest_beneath(t, s, height(t), root(t), 0, Next::None)
 }
 
 // The same over any words: those that are no sound table have no next cell.

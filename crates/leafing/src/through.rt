@@ -3,9 +3,10 @@ use crate::next;
 use crate::open;
 use crate::search::Next;
 use sheet::record::cell_numbers;
-use table::header::CELLS;
 use track::cell::Cell;
+use track::range::MOST_CELLS;
 use track::refusal::Refusal;
+use words::put_run;
 ghost use mathlib.Core.Path.{_≡_};
 ghost use Prim.Native.Nat.{_+_, _*_, _≤_};
 ghost use lib.ListN.{length};
@@ -13,7 +14,7 @@ ghost use Rattle.words.specs.Parts.{put};
 ghost use Rattle.table.specs.Header.{greatestCapacity};
 ghost use Rattle.sheet.specs.Sheet.{cellNumbers};
 ghost use Rattle.leafing.specs.Through.{recordNumbers, LeafsThrough};
-ghost use Rattle.leafing.specs.Inner.LeafingList.{isOne, countAfter, listAfter, Gathers};
+ghost use Rattle.leafing.specs.Inner.LeafingList.{isOne, countAfter, listAfter, ListsAll};
 
 // How many numbers a cell has: a sheet record's six.
 pub const RECORD_NUMBERS: usize = 6;
@@ -40,35 +41,23 @@ fn is_one(given: Next) -> bool
     }
 }
 
-// Writes the numbers to the places of the list from `at` on.
-fn put_numbers(list: &mut [i32], at: usize, numbers: &[i32])
-    requires { ⌜ at + length (now numbers) ≤ length (now list) ⌝ }
-    ensures { λ _. ⌜ now (list .exit) ≡ put (now (list .entry)) at (length (now (numbers .entry))) (now (numbers .entry)) ⌝ }
-{
-    let mut j = 0;
-    while j < numbers.len() {
-        list[at + j] = numbers[j];
-        j += 1;
-    }
-}
-
 // Writes the numbers of a cell behind those of the n that stand in the list.
-fn put_cell(list: &mut [i32], n: usize, c: Cell)
+fn list_cell(list: &mut [i32], n: usize, c: Cell)
     requires { ⌜ recordNumbers * (n + 1) ≤ length (now list) ⌝ }
     ensures { λ _. ⌜ now (list .exit) ≡ put (now (list .entry)) (recordNumbers * n) recordNumbers (cellNumbers c) ⌝ }
 {
     let numbers = cell_numbers(c);
-    put_numbers(list, RECORD_NUMBERS * n, &numbers);
+    put_run(list, RECORD_NUMBERS * n, &numbers);
 }
 
 // Puts the cell that a step gave behind the n that stand in the list, and tells how many they are then.
-fn put_next(list: &mut [i32], n: usize, given: Next) -> usize
+fn list_next(list: &mut [i32], n: usize, given: Next) -> usize
     requires { ⌜ recordNumbers * countAfter given n ≤ length (now list) ⌝ }
     ensures { λ r. ⌜ (r ≡ countAfter given n) × (now (list .exit) ≡ listAfter given n (now (list .entry))) ⌝ }
 {
     match given {
         Next::One(c) => {
-            put_cell(list, n, c);
+            list_cell(list, n, c);
             n + 1
         }
         Next::None => n,
@@ -76,16 +65,16 @@ fn put_next(list: &mut [i32], n: usize, given: Next) -> usize
 }
 
 // Opens a leafing and goes through it to its end. The list has room for as many cells as a table may hold.
-fn gather(t: &[i32], list: &mut [i32]) -> Listed
+fn list_all(t: &[i32], list: &mut [i32]) -> Listed
     requires { ⌜ recordNumbers * greatestCapacity ≤ length (now list) ⌝ }
-    ensures { λ r. ⌜ Gathers (now (t .entry)) (now (list .entry)) r (now (list .exit)) ⌝ }
+    ensures { λ r. ⌜ ListsAll (now (t .entry)) (now (list .entry)) r (now (list .exit)) ⌝ }
 {
     let mut l = open(t);
     let mut n = 0;
     let mut more = true;
     while more {
         let given = next(&mut l);
-        n = put_next(&mut *list, n, given);
+        n = list_next(&mut *list, n, given);
         more = is_one(given);
     }
     told(l.number, n)
@@ -96,8 +85,8 @@ fn gather(t: &[i32], list: &mut [i32]) -> Listed
 pub fn leaf_through(t: &[i32], list: &mut [i32]) -> Listed
     ensures { λ r. ⌜ LeafsThrough (now (t .entry)) (now (list .entry)) r (now (list .exit)) ⌝ }
 {
-    let mut all = [0; RECORD_NUMBERS * CELLS];
-    let found = gather(t, &mut all);
+    let mut all = [0; RECORD_NUMBERS * MOST_CELLS];
+    let found = list_all(t, &mut all);
     let n = RECORD_NUMBERS * found.cells;
     if list.len() < n {
         return Listed {
@@ -105,6 +94,6 @@ pub fn leaf_through(t: &[i32], list: &mut [i32]) -> Listed
             cells: found.cells,
         };
     }
-    put_numbers(list, 0, &all[..n]);
+    put_run(list, 0, &all[..n]);
     found
 }

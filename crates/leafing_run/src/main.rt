@@ -5,6 +5,7 @@ use leafing::through::RECORD_NUMBERS;
 use leafing::through::leaf_through;
 use libc::STDOUT_FILENO;
 use table::fresh::fresh;
+use track::report::report_from;
 use tree::change::drop;
 use tree::change::report;
 use words::place;
@@ -30,7 +31,10 @@ fn report_all(t: &mut [i32]) {
     let mut k = 0;
     while k < 11 {
         let r = reports[k];
-        report(&mut *t, r[0], r[1], r[2], r[3], r[4], r[5], r[6]);
+        report(
+            &mut *t,
+            report_from(r[0], r[1], r[2], r[3], r[4], r[5], r[6]),
+        );
         k += 1;
     }
 }

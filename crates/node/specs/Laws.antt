@@ -1,5 +1,4 @@
 pub mod Entry
-pub mod Ninth
 pub mod Change
 pub mod ChangeAt
 pub mod Made

@@ -7,17 +7,26 @@ use words::entry_offset;
 use words::put_count;
 use words::put_entry;
 ghost use mathlib.Core.Path.{_≡_};
+ghost use mathlib.Core.List.{[], _∷_, _++_};
 ghost use Prim.Native.Nat.{_<_, _≤_};
-ghost use lib.ListN.{length};
-ghost use Rattle.words.specs.Layout.{nodeWords, entryWords, fullNode};
-ghost use Rattle.words.specs.Words.{withCount};
-ghost use Rattle.node.specs.Entry.{entryCount};
-ghost use Rattle.node.specs.Inner.Change.{appended, removed};
+ghost use lib.IntN.{pos};
+ghost use lib.ListN.{length, set, take};
+ghost use Rattle.words.specs.Layout.{nodeWords, fullNode};
+ghost use Rattle.node.specs.Entry.{entryCountWord, entryCount, entriesOf};
+ghost use Rattle.node.specs.Inner.Change.{without, NodeChanged};
+
+// The entry is put in the place of entry k.
+pub fn put(node: &mut [i32], k: usize, e: Entry)
+    requires { ⌜ (length (now node) ≡ nodeWords) × (k < entryCount (now node)) ⌝ }
+    ensures { λ _. ⌜ NodeChanged (now (node .entry)) (set (entriesOf (now (node .entry))) k e) (now (node .exit)) ⌝ }
+{
+    put_entry(node, k, e);
+}
 
 // The entry is put behind the others.
 pub fn append(node: &mut [i32], e: Entry)
     requires { ⌜ (length (now node) ≡ nodeWords) × (entryCount (now node) < fullNode) ⌝ }
-    ensures { λ _. ⌜ (now (node .exit) ≡ appended (now (node .entry)) e) × (length e ≡ entryWords) ⌝ }
+    ensures { λ _. ⌜ NodeChanged (now (node .entry)) (entriesOf (now (node .entry)) ++ e ∷ []) (now (node .exit)) ⌝ }
 {
     let n = count(node);
     put_entry(node, n, e);
@@ -27,7 +36,7 @@ pub fn append(node: &mut [i32], e: Entry)
 // Entry k is taken out: the later ones move down by one.
 pub fn remove(node: &mut [i32], k: usize)
     requires { ⌜ (length (now node) ≡ nodeWords) × (k < entryCount (now node)) ⌝ }
-    ensures { λ _. ⌜ now (node .exit) ≡ removed (now (node .entry)) k ⌝ }
+    ensures { λ _. ⌜ NodeChanged (now (node .entry)) (without k (entriesOf (now (node .entry)))) (now (node .exit)) ⌝ }
 {
     let n = count(node) - 1;
     let a = entry_offset(k);
@@ -38,7 +47,7 @@ pub fn remove(node: &mut [i32], k: usize)
 // The first n entries are kept; with none the node is free.
 pub fn keep(node: &mut [i32], n: usize)
     requires { ⌜ (length (now node) ≡ nodeWords) × (n ≤ entryCount (now node)) ⌝ }
-    ensures { λ _. ⌜ now (node .exit) ≡ withCount (now (node .entry)) n ⌝ }
+    ensures { λ _. ⌜ NodeChanged (now (node .entry)) (take n (entriesOf (now (node .entry)))) (now (node .exit)) × (entryCountWord (now (node .exit)) ≡ pos n) ⌝ }
 {
     put_count(node, n);
 }

@@ -1,5 +1,6 @@
 // What a node's words are read as. A node is any slice of words: a word past its end is read as 0.
 use track::cell::Cell;
+use track::meeting::Bounds;
 use track::meeting::cell_bounds;
 use track::minute::Minute;
 use words::FULL_NODE;
@@ -28,10 +29,7 @@ pub fn is_counted(node: &[i32]) -> bool
     ensures { λ r. ⌜ Tells r (IsCount (entryCountWord (now (node .entry)))) ⌝ }
 {
     let n = word(node, 0);
-    if n < 0 {
-        return false;
-    }
-    place(n) <= FULL_NODE
+    (0 <= n) & (place(n) <= FULL_NODE)
 }
 
 // The word at a place of entry k.
@@ -84,7 +82,7 @@ pub fn stamp(node: &[i32], k: usize) -> i32
 }
 
 // The bounds of an entry: a row for x and a row for y.
-pub fn bounds(node: &[i32], k: usize, leaf: bool) -> [[i32; 4]; 2]
+pub fn bounds(node: &[i32], k: usize, leaf: bool) -> Bounds
     requires { ⌜ k < fullNode ⌝ }
     ensures { λ r. ⌜ r ≡ boundsOf leaf (entryAt (now (node .entry)) k) ⌝ }
 {

@@ -2,6 +2,7 @@
 use crate::worked::latest;
 use crate::worked::worked_row;
 use track::cell::Cell;
+use track::meeting::Bounds;
 use words::Entry;
 use words::number;
 ghost use mathlib.Core.Path.{_≡_};
@@ -30,7 +31,7 @@ fn narrow_row(r: [i64; 4]) -> [i32; 4]
 
 // What a node's entries come to at a minute: their bounds, a row for x and a row for y, and through `until` the greatest expiry.
 // A number behind a reference comes back without its range, so the contract hands it on.
-pub fn work_out(child: &[i32], leaf: bool, minute: i32, until: &mut i32) -> [[i32; 4]; 2]
+pub fn work_out(child: &[i32], leaf: bool, minute: i32, until: &mut i32) -> Bounds
     requires { ⌜ (IsMinute minute) × (InRangeAt leaf minute (entriesOf (now child))) ⌝ }
     ensures { λ r. ⌜ r ≡ workedOut leaf minute (entriesOf (now (child .entry))) ⌝ }
     ensures { λ _. ⌜ (now (until .exit) ≡ latestOf leaf (entriesOf (now (child .entry)))) × (SFits w32 (now (until .exit))) ⌝ }
@@ -42,7 +43,7 @@ pub fn work_out(child: &[i32], leaf: bool, minute: i32, until: &mut i32) -> [[i3
 }
 
 // The inner entry above a child, with its bounds and the greatest expiry beneath, worked out at the stamp.
-pub fn inner_entry(child: usize, b: [[i32; 4]; 2], until: i32, stamp: i32) -> Entry
+pub fn inner_entry(child: usize, b: Bounds, until: i32, stamp: i32) -> Entry
     requires { ⌜ child < 2 ^ 31 ⌝ }
     ensures { λ r. ⌜ r ≡ innerEntry child b until stamp ⌝ }
 {

@@ -126,11 +126,7 @@ pub fn is_worked_out(parent: &[i32], k: usize, child: &[i32], leaf: bool) -> boo
 {
     let minute = stamp(parent, k);
     let b = bounds(parent, k, false);
-    if !same_row(b[0], worked_row(child, leaf, 0, minute)) {
-        return false;
-    }
-    if !same_row(b[1], worked_row(child, leaf, 1, minute)) {
-        return false;
-    }
-    until(parent, k, false) == latest(child, leaf)
+    let on_x = same_row(b[0], worked_row(child, leaf, 0, minute));
+    let on_y = same_row(b[1], worked_row(child, leaf, 1, minute));
+    on_x & on_y & (until(parent, k, false) == latest(child, leaf))
 }

@@ -1,5 +1,5 @@
 -- The three demands, each in our words above the theorems that carry it. `Happens w c a v` is what the contracts promise of a call: on the words w the call c
--- replies a and leaves the words v. The definitions are in `Calls` (calls, replies, runs, refusals) and `Model` (a plain model of a table), and in the crates that
+-- replies a and leaves the words v. The definitions are in `Happens` (calls, replies, runs, refusals) and `Model` (a plain model of a table), and in the crates that
 -- these cite; the laws that the proofs cite are in the other files.
 use mathlib.Core.Path.{_≡_, refl, sym, ap, _∙_, subst}
 use mathlib.Core.Logic.{_⊎_, _↔_}
@@ -7,15 +7,14 @@ use mathlib.Core.List.{List, _∷_, _++_}
 use Prim.Native.Nat.{ℕ, _≤_}
 use lib.IntN.{ℤ, pos}
 use lib.ListN.{length, take, drop}
-use lib.Signed.{_≤ℤ_, _<ℤ_}
 use Rattle.whole.specs.Lists.{_∈_}
 use Rattle.words.specs.Words.{natOf}
 use Rattle.track.specs.Life.{identifier}
-use Rattle.track.specs.Query.{queryFrom, windowFrom}
 use Rattle.track.specs.Refusals.{First, Gives}
 use Rattle.track.specs.Laws.Refusals.{first-fixed}
 use Rattle.track.specs.declared.cell.Cell.{Cell}
 use Rattle.track.specs.declared.queries.Query.{Query}
+use Rattle.track.specs.declared.report.Report as track
 use Rattle.table.specs.Header.{IsCapacity, capacityWord, clock, wordsFor}
 use Rattle.table.specs.Sound.{held, Sound, Live}
 use Rattle.query.specs.Hits.{Hits}
@@ -28,10 +27,10 @@ use Rattle.sheet.specs.Bytes.{AreBytes}
 use Rattle.sheet.specs.Sheet.{totalFor, cellNumbers}
 use Rattle.tree.specs.Steps.{outcomeNumber}
 use Rattle.alike.specs.Alike.{Alike}
-use Rattle.calls.specs.TableCalls.{FreshGives, QueryGives}
+use Rattle.calls.specs.TableCalls.{FreshGives, QueryGives, WindowGives, MovingGives}
 use Rattle.calls.specs.ChangeCalls.{ReportGives, DropGives}
 use Rattle.calls.specs.SheetCalls.{WriteGives, ReadGives, isGiven, nextCell, NextGives}
-use Rattle.promises.specs.Happens.{Call, Fresh, Report, Drop, Window, Moving, Open, Leaf, Write, Read, Reply, Number, Listed, Given, Bytes, told, Happens, Run, reasonsOf, ChangesNothing, IsQuery, OnlyReads}
+use Rattle.promises.specs.Happens.{Call, Fresh, Report, Drop, Window, Moving, Open, Leaf, Write, Read, Reply, Number, Listed, Given, Bytes, told, Happens, Run, reasonsOf, ChangesNothing, IsQuery, GoesBack, OnlyReads}
 use Rattle.promises.specs.Model.{Model, Together, afterAll, Start, capacityAfter, Sized}
 use Rattle.promises.specs.Laws.Refused.{call-number, only-reads, call-refused, backward}
 use Rattle.promises.specs.Laws.Replies.{query-lists, query-counts, written-back, read-back, asked-in-numbers, wrote-in-numbers, opened-is}
@@ -53,19 +52,14 @@ module _ (w : List ℤ) (c : Call) (a : Reply) (v : List ℤ) (happens : Happens
   pub reading-changes-no-table : OnlyReads c → v ≡ w
   reading-changes-no-table only = only-reads a only happens
 
+  -- A window that ends before it starts is refused on any table, by 7 unless 1, 4 or 5 comes first; so is a moving query that does not end after its start.
+  pub backward-query-is-refused : {q : Query} {list : List ℤ} (query : IsQuery c q list) → GoesBack query → (told a ≡ 1) ⊎ ((told a ≡ 4) ⊎ ((told a ≡ 5) ⊎ (told a ≡ 7)))
+  backward-query-is-refused query = backward w a v query happens
+
 -- The hits that come with 10 are all there are.
-pub too-many-hits-are-counted : {w : List ℤ} {c : Call} {k : Query} {list : List ℤ} {a : Reply} (v : List ℤ) → IsQuery c k list → Happens w c a v → told a ≡ 10
-    → (ids : List ℤ) × Hits w k ids × (a ≡ Listed 10 (length ids) list)
+pub too-many-hits-are-counted : {w : List ℤ} {c : Call} {q : Query} {list : List ℤ} {a : Reply} (v : List ℤ) → IsQuery c q list → Happens w c a v → told a ≡ 10
+    → (ids : List ℤ) × Hits w q ids × (a ≡ Listed 10 (length ids) list)
 too-many-hits-are-counted v query happens ten = query-counts v query happens ten
-
--- A window that ends before it starts is refused on any table, by 7 unless 1, 4 or 5 comes first; so is a moving query that does not end after its start.
-pub backward-window-is-refused : {w : List ℤ} {k : Query} {list : List ℤ} {a : Reply} {v : List ℤ} → Happens w (Window k list) a v → k .end .at <ℤ k .start .at
-    → (told a ≡ 1) ⊎ ((told a ≡ 4) ⊎ ((told a ≡ 5) ⊎ (told a ≡ 7)))
-backward-window-is-refused {w} {k} {list} {a} {v} happens = backward list (told a) (call-number w (Window k list) a v happens)
-
-pub backward-moving-is-refused : {w : List ℤ} {k : Query} {list : List ℤ} {a : Reply} {v : List ℤ} → Happens w (Moving k list) a v → k .end .at ≤ℤ k .start .at
-    → (told a ≡ 1) ⊎ ((told a ≡ 4) ⊎ ((told a ≡ 5) ⊎ (told a ≡ 7)))
-backward-moving-is-refused {w} {k} {list} {a} {v} happens = backward list (told a) (call-number w (Moving k list) a v happens)
 
 -- A step of the leafing over words that are no sound table gives none.
 pub step-over-unsound-gives-none : {w : List ℤ} {last : ℤ} {a : Reply} {v : List ℤ} → (Sound w → ⊥) → Happens w (Leaf last) a v → a ≡ Given None
@@ -74,8 +68,8 @@ step-over-unsound-gives-none unsound happens = happens .reply ∙ ap Given (happ
 -- ==== 2. Queries and sheets are exact. A query lists each held cell that meets it once, by rising identifier, and no other; a sheet carries the clock and the live
 -- cells, there and back.
 -- The identifiers that an accepted query lists, still or moving, are those of `Hits`. They stand in the list's first places, and the places behind are as they were.
-pub accepted-query-lists-the-hits : {w : List ℤ} {c : Call} {k : Query} {list : List ℤ} {a : Reply} (v : List ℤ) → IsQuery c k list → Happens w c a v → told a ≡ 0
-    → (ids : List ℤ) × Hits w k ids × (a ≡ Listed 0 (length ids) (ids ++ drop (length ids) list))
+pub accepted-query-lists-the-hits : {w : List ℤ} {c : Call} {q : Query} {list : List ℤ} {a : Reply} (v : List ℤ) → IsQuery c q list → Happens w c a v → told a ≡ 0
+    → (ids : List ℤ) × Hits w q ids × (a ≡ Listed 0 (length ids) (ids ++ drop (length ids) list))
 accepted-query-lists-the-hits v query happens accepted = query-lists v query happens accepted
 
 -- In a sound table an identifier is that of one held cell.
@@ -121,36 +115,33 @@ reply-is-fixed together together′ cells long c a a′ v v′ happens happens�
 
 -- Two reports on different cells in one minute, the second straight after the first, can change places wherever both are accepted in both orders: every further
 -- run of calls gets the same replies.
-pub reports-can-change-places : {minute i x y vx vy expiry j x′ y′ vx′ vy′ expiry′ : ℤ} {w t t′ : List ℤ} {further : List Call} {replies replies′ : List Reply} → (i ≡ j → ⊥)
-    → Run w (Report i x y vx vy minute expiry ∷ Report j x′ y′ vx′ vy′ minute expiry′ ∷ further) (Number 0 ∷ Number 0 ∷ replies) t
-    → Run w (Report j x′ y′ vx′ vy′ minute expiry′ ∷ Report i x y vx vy minute expiry ∷ further) (Number 0 ∷ Number 0 ∷ replies′) t′ → (replies ≡ replies′) × Alike t t′
-reports-can-change-places differ run run′ = exchanged-alike differ run run′
+pub reports-can-change-places : {r s : track.Report} {w t t′ : List ℤ} {further : List Call} {replies replies′ : List Reply} → (r .id ≡ s .id → ⊥) → r .minute ≡ s .minute
+    → Run w (Report r ∷ Report s ∷ further) (Number 0 ∷ Number 0 ∷ replies) t
+    → Run w (Report s ∷ Report r ∷ further) (Number 0 ∷ Number 0 ∷ replies′) t′ → (replies ≡ replies′) × Alike t t′
+reports-can-change-places differ minute run run′ = exchanged-alike differ minute run run′
 
 -- ==== The exported calls do what `Happens` says, so all of this holds of them. From what each ensures of its result r, of what it writes and of the table there
 -- is a reply in these numbers; a table that is lent for reading only is left as it was.
 pub fresh-happens : {cells r : ℤ} {w v : List ℤ} → FreshGives cells w r v → (n : ℕ) × (r ≡ pos n) × Happens w (Fresh cells) (Number n) v
 fresh-happens g = (g .number, g .is, record { number = g .number; reply = refl; makes = g .makes })
 
-pub report-happens : {id x y vx vy minute expiry r : ℤ} {w v : List ℤ} → ReportGives w id x y vx vy minute expiry r v
-    → (n : ℕ) × (r ≡ pos n) × Happens w (Report id x y vx vy minute expiry) (Number n) v
+pub report-happens : {r : track.Report} {z : ℤ} {w v : List ℤ} → ReportGives w r z v → (n : ℕ) × (z ≡ pos n) × Happens w (Report r) (Number n) v
 report-happens g = (g .number, g .is, record { number = g .number; reply = refl; steps = g .steps })
 
 pub drop-happens : {id minute r : ℤ} {w v : List ℤ} → DropGives w id minute r v → (n : ℕ) × (r ≡ pos n) × Happens w (Drop id minute) (Number n) v
 drop-happens g = (g .number, g .is, record { number = g .number; reply = refl; steps = g .steps })
 
-pub window-happens : {start end xlow xhigh ylow yhigh r hits opened : ℤ} {w list list′ : List ℤ}
-    → QueryGives w (end <ℤ start) (windowFrom start end xlow xhigh ylow yhigh) list r hits opened list′
-    → (n : ℕ) × (h : ℕ) × (r ≡ pos n) × (hits ≡ pos h) × Happens w (Window (windowFrom start end xlow xhigh ylow yhigh) list) (Listed n h list′) w
-window-happens g = asked-in-numbers g
+pub window-happens : (q : Query) {r hits opened : ℤ} {w list list′ : List ℤ} → WindowGives w q list r hits opened list′
+    → (n : ℕ) × (h : ℕ) × (r ≡ pos n) × (hits ≡ pos h) × Happens w (Window q list) (Listed n h list′) w
+window-happens q g = asked-in-numbers g
 
-pub moving-happens : {start end xlow xhigh ylow yhigh xlow2 xhigh2 ylow2 yhigh2 r hits opened : ℤ} {w list list′ : List ℤ}
-    → QueryGives w (end ≤ℤ start) (queryFrom start end xlow xhigh ylow yhigh xlow2 xhigh2 ylow2 yhigh2) list r hits opened list′
-    → (n : ℕ) × (h : ℕ) × (r ≡ pos n) × (hits ≡ pos h) × Happens w (Moving (queryFrom start end xlow xhigh ylow yhigh xlow2 xhigh2 ylow2 yhigh2) list) (Listed n h list′) w
-moving-happens g = asked-in-numbers g
+pub moving-happens : (q : Query) {r hits opened : ℤ} {w list list′ : List ℤ} → MovingGives w q list r hits opened list′
+    → (n : ℕ) × (h : ℕ) × (r ≡ pos n) × (hits ≡ pos h) × Happens w (Moving q list) (Listed n h list′) w
+moving-happens q g = asked-in-numbers g
 
 -- The count of opened nodes beside these is the table's own, and 0 for a refusal.
-pub opened-count-is-the-tables : {w : List ℤ} {Backward : Type 0} {k : Query} {list : List ℤ} {r hits opened : ℤ} {list′ : List ℤ}
-    → QueryGives w Backward k list r hits opened list′ → (r ≡ pos 0 → opened ≡ pos (length (openedNodes w k))) × ((r ≡ pos 0 → ⊥) → opened ≡ pos 0)
+pub opened-count-is-the-tables : {w : List ℤ} {Backward : Type 0} {q : Query} {list : List ℤ} {r hits opened : ℤ} {list′ : List ℤ}
+    → QueryGives w Backward q list r hits opened list′ → (r ≡ pos 0 → opened ≡ pos (length (openedNodes w q))) × ((r ≡ pos 0 → ⊥) → opened ≡ pos 0)
 opened-count-is-the-tables g = opened-is g
 
 pub open-happens : {r : ℤ} {w : List ℤ} → Gives (openingReasons w) r → (n : ℕ) × (r ≡ pos n) × Happens w Open (Number n) w

@@ -3,8 +3,9 @@ use mathlib.Core.Path.{_≡_}
 use mathlib.Core.List.{List, [], _∷_}
 use Prim.Native.Nat.{ℕ}
 use lib.IntN.{ℤ}
-use lib.Signed.{_≤ℤ_, _<ℤ_}
+use Rattle.track.specs.Query.{still, EndsBeforeStart, EndsByStart}
 use Rattle.track.specs.Refusals.{Reason, First}
+use Rattle.track.specs.declared.report.Report as track
 use Rattle.track.specs.declared.queries.Query.{Query}
 use Rattle.table.specs.Fresh.{freshReasons, MakesFresh}
 use Rattle.query.specs.Queried.{answerNumber, answerHits, reasons, Queried}
@@ -21,10 +22,10 @@ use Rattle.tree.specs.declared.outcome.Outcome.{Outcome}
 -- a call with all that is given to it but the table: numbers, the lent list, the lent bytes
 pub data Call : Type 0 where
   Fresh : (cells : ℤ) → Call
-  Report : (id x y vx vy minute expiry : ℤ) → Call
+  Report : (r : track.Report) → Call
   Drop : (id minute : ℤ) → Call
-  Window : (k : Query) (list : List ℤ) → Call
-  Moving : (k : Query) (list : List ℤ) → Call
+  Window : (q : Query) (list : List ℤ) → Call
+  Moving : (q : Query) (list : List ℤ) → Call
   Open : Call
   Leaf : (last : ℤ) → Call
   Write : (bytes : List ℕ) → Call
@@ -57,22 +58,22 @@ pub record WasMade (w : List ℤ) (cells : ℤ) (a : Reply) (v : List ℤ) : Typ
   pub reply : a ≡ Number number
   pub makes : MakesFresh cells w number v
 
-pub record WasReported (w : List ℤ) (id x y vx vy minute expiry : ℤ) (a : Reply) (v : List ℤ) : Type 0 where
+pub record WasReported (w : List ℤ) (r : track.Report) (a : Reply) (v : List ℤ) : Type 0 where
   pub number : ℕ
   pub reply : a ≡ Number number
-  pub steps : ReportSteps w id x y vx vy minute expiry number v
+  pub steps : ReportSteps w r number v
 
 pub record WasDropped (w : List ℤ) (id minute : ℤ) (a : Reply) (v : List ℤ) : Type 0 where
   pub number : ℕ
   pub reply : a ≡ Number number
   pub steps : DropSteps w id minute number v
 
--- `Backward` is end before start for a window, and also end at start for a moving query
-pub record WasAsked (w : List ℤ) (Backward : Type 0) (k : Query) (list : List ℤ) (a : Reply) (v : List ℤ) : Type 0 where
+-- `Backward` is as in `queryReasons`
+pub record WasAsked (w : List ℤ) (Backward : Type 0) (q : Query) (list : List ℤ) (a : Reply) (v : List ℤ) : Type 0 where
   pub answer : Answer
   pub list′ : List ℤ
   pub reply : a ≡ Listed (answerNumber answer) (answerHits answer) list′
-  pub queried : Queried w Backward k list answer list′
+  pub queried : Queried w Backward q list answer list′
   pub unchanged : v ≡ w
 
 pub record WasOpened (w : List ℤ) (a : Reply) (v : List ℤ) : Type 0 where
@@ -101,10 +102,10 @@ pub record WasRead (w : List ℤ) (cells : ℤ) (bytes : List ℕ) (a : Reply) (
 
 abbrev pub Happens : List ℤ → Call → Reply → List ℤ → Type 0
 Happens w (Fresh cells) a v = WasMade w cells a v
-Happens w (Report id x y vx vy minute expiry) a v = WasReported w id x y vx vy minute expiry a v
+Happens w (Report r) a v = WasReported w r a v
 Happens w (Drop id minute) a v = WasDropped w id minute a v
-Happens w (Window k list) a v = WasAsked w (k .end .at <ℤ k .start .at) k list a v
-Happens w (Moving k list) a v = WasAsked w (k .end .at ≤ℤ k .start .at) k list a v
+Happens w (Window q list) a v = WasAsked w (EndsBeforeStart q) (still q) list a v
+Happens w (Moving q list) a v = WasAsked w (EndsByStart q) q list a v
 Happens w Open a v = WasOpened w a v
 Happens w (Leaf last) a v = WasStepped w last a v
 Happens w (Write bytes) a v = WasWritten w bytes a v
@@ -119,10 +120,10 @@ pub data Run : List ℤ → List Call → List Reply → List ℤ → Type 0 whe
 -- why a call of the table w is refused, in the order in which it is tried. A step of the leafing has no number: where there is nothing to give it gives none
 abbrev pub reasonsOf : List ℤ → Call → List Reason
 reasonsOf w (Fresh cells) = freshReasons cells w
-reasonsOf w (Report id x y vx vy minute expiry) = reportRefusals w id x y vx vy minute expiry
+reasonsOf w (Report r) = reportRefusals w r
 reasonsOf w (Drop id minute) = dropRefusals w id minute
-reasonsOf w (Window k list) = reasons w (k .end .at <ℤ k .start .at) k list
-reasonsOf w (Moving k list) = reasons w (k .end .at ≤ℤ k .start .at) k list
+reasonsOf w (Window q list) = reasons w (EndsBeforeStart q) (still q) list
+reasonsOf w (Moving q list) = reasons w (EndsByStart q) q list
 reasonsOf w Open = openingReasons w
 reasonsOf w (Leaf last) = []
 reasonsOf w (Write bytes) = writeReasons w bytes
@@ -131,10 +132,10 @@ reasonsOf w (Read cells bytes) = readReasons cells w bytes
 -- the reply of a call that is refused by n and gives so many hits
 abbrev pub refusedBy : Call → ℕ → ℕ → Reply
 refusedBy (Fresh cells) n hits = Number n
-refusedBy (Report id x y vx vy minute expiry) n hits = Number n
+refusedBy (Report r) n hits = Number n
 refusedBy (Drop id minute) n hits = Number n
-refusedBy (Window k list) n hits = Listed n hits list
-refusedBy (Moving k list) n hits = Listed n hits list
+refusedBy (Window q list) n hits = Listed n hits list
+refusedBy (Moving q list) n hits = Listed n hits list
 refusedBy Open n hits = Number n
 refusedBy (Leaf last) n hits = Given None
 refusedBy (Write bytes) n hits = Bytes n 0 bytes
@@ -151,12 +152,17 @@ pub record ChangesNothing (w : List ℤ) (c : Call) (a : Reply) (v : List ℤ) :
 -- ---- kinds of calls
 -- a query, still or moving, and the list that is lent to it
 pub data IsQuery : Call → Query → List ℤ → Type 0 where
-  window : {k : Query} {list : List ℤ} → IsQuery (Window k list) k list
-  moving : {k : Query} {list : List ℤ} → IsQuery (Moving k list) k list
+  window : {q : Query} {list : List ℤ} → IsQuery (Window q list) (still q) list
+  moving : {q : Query} {list : List ℤ} → IsQuery (Moving q list) q list
+
+-- what speaks against it as backward
+abbrev pub GoesBack : {c : Call} {q : Query} {list : List ℤ} → IsQuery c q list → Type 0
+GoesBack (window {q}) = EndsBeforeStart q
+GoesBack (moving {q}) = EndsByStart q
 
 -- a call that only reads its table
 pub data OnlyReads : Call → Type 0 where
-  query : {c : Call} {k : Query} {list : List ℤ} → IsQuery c k list → OnlyReads c
+  query : {c : Call} {q : Query} {list : List ℤ} → IsQuery c q list → OnlyReads c
   opening : OnlyReads Open
   step : {last : ℤ} → OnlyReads (Leaf last)
   writing : {bytes : List ℕ} → OnlyReads (Write bytes)

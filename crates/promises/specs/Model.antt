@@ -49,10 +49,10 @@ others id cells = keep (λ c. differs (ℤ-discrete (c .id) id)) cells
 -- by an accepted call: one that only reads leaves it as it is
 abbrev pub accepted : Model → Call → Model
 accepted m (Fresh cells) = fresh
-accepted m (Report id x y vx vy minute expiry) = record { clock = minute; left = keptCell id x y vx vy minute expiry ∷ others id (m .left) }
+accepted m (Report r) = record { clock = r .minute; left = keptCell r ∷ others (r .id) (m .left) }
 accepted m (Drop id minute) = record { clock = minute; left = others id (m .left) }
-accepted m (Window k list) = m
-accepted m (Moving k list) = m
+accepted m (Window q list) = m
+accepted m (Moving q list) = m
 accepted m Open = m
 accepted m (Leaf last) = m
 accepted m (Write bytes) = m
@@ -77,10 +77,10 @@ pub data Start : Model → List ℤ → Type 0 where
 -- ---- the size of a table: its length stands, and its capacity does but for an accepted new start, which sets it
 abbrev pub acceptedCapacity : ℤ → Call → ℤ
 acceptedCapacity n (Fresh cells) = cells
-acceptedCapacity n (Report id x y vx vy minute expiry) = n
+acceptedCapacity n (Report r) = n
 acceptedCapacity n (Drop id minute) = n
-acceptedCapacity n (Window k list) = n
-acceptedCapacity n (Moving k list) = n
+acceptedCapacity n (Window q list) = n
+acceptedCapacity n (Moving q list) = n
 acceptedCapacity n Open = n
 acceptedCapacity n (Leaf last) = n
 acceptedCapacity n (Write bytes) = n
@@ -88,7 +88,7 @@ acceptedCapacity n (Read cells bytes) = cells
 
 abbrev pub capacityAfter : ℤ → Call → ℕ → ℤ
 capacityAfter n c zero = acceptedCapacity n c
-capacityAfter n c (suc k) = n
+capacityAfter n c (suc m) = n
 
 -- v is as long as w and has the capacity n
 pub record Sized (w v : List ℤ) (n : ℤ) : Type 0 where

@@ -13,20 +13,20 @@ use Rattle.track.specs.declared.queries.Query.{Query}
 use Rattle.table.specs.Sound.{held}
 
 -- a held cell with this identifier meets the query
-pub record Hit (w : List ℤ) (k : Query) (id : ℤ) : Type 0 where
+pub record Hit (w : List ℤ) (q : Query) (id : ℤ) : Type 0 where
   pub cell : Cell
   pub is-held : cell ∈ held w
   pub has-id : cell .id ≡ id
-  pub meets : CellMeets cell k
+  pub meets : CellMeets cell q
 
 -- `ids` rises strictly, and an identifier stands in it exactly when a held cell with it meets the query
-pub record Hits (w : List ℤ) (k : Query) (ids : List ℤ) : Type 0 where
+pub record Hits (w : List ℤ) (q : Query) (ids : List ℤ) : Type 0 where
   pub rising : Rising _<ℤ_ ids
-  pub only : (id : ℤ) → id ∈ ids → Hit w k id
-  pub all : (id : ℤ) → Hit w k id → id ∈ ids
+  pub only : (id : ℤ) → id ∈ ids → Hit w q id
+  pub all : (id : ℤ) → Hit w q id → id ∈ ids
 
 -- there are more hits than n places
-pub record MoreHits (w : List ℤ) (k : Query) (n : ℕ) : Type 0 where
+pub record MoreHits (w : List ℤ) (q : Query) (n : ℕ) : Type 0 where
   pub ids : List ℤ
-  pub hits : Hits w k ids
+  pub hits : Hits w q ids
   pub more : n < length ids

@@ -3,5 +3,4 @@ pub mod Answering
 pub mod Few
 pub mod Finding
 pub mod Gathering
-pub mod IdsWritten
 pub mod Opening

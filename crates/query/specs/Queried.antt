@@ -32,28 +32,28 @@ answerOpened (Refused r) = 0
 
 -- why a query of the table w is refused, in the order in which it is tried. `Backward` is as in `queryReasons`
 abbrev pub reasons : List ℤ → Type 0 → Query → List ℤ → List Reason
-reasons w Backward k list = 1 when (Sound w → ⊥) ∷ (queryReasons (clock w) Backward k ++ (10 when (MoreHits w k (length list)) ∷ []))
+reasons w Backward q list = 1 when (Sound w → ⊥) ∷ (queryReasons (clock w) Backward q ++ (10 when (MoreHits w q (length list)) ∷ []))
 
 -- an accepted query: the hits stand in the list's first places, and the others are as they were
-pub record Lists (w : List ℤ) (k : Query) (list : List ℤ) (r : Answer) (list′ : List ℤ) : Type 0 where
+pub record Lists (w : List ℤ) (q : Query) (list : List ℤ) (r : Answer) (list′ : List ℤ) : Type 0 where
   pub ids : List ℤ
-  pub hits : Hits w k ids
+  pub hits : Hits w q ids
   pub written : list′ ≡ ids ++ drop (length ids) list
   pub hit-count : answerHits r ≡ length ids
-  pub opened-count : answerOpened r ≡ length (openedNodes w k)
+  pub opened-count : answerOpened r ≡ length (openedNodes w q)
 
 -- a query with too many hits: they are counted
-pub record Counts (w : List ℤ) (k : Query) (r : Answer) : Type 0 where
+pub record Counts (w : List ℤ) (q : Query) (r : Answer) : Type 0 where
   pub ids : List ℤ
-  pub hits : Hits w k ids
+  pub hits : Hits w q ids
   pub hit-count : answerHits r ≡ length ids
 
--- the answer r to the query k and the list that it leaves, where these reasons to refuse it are tried
-pub record Answers (tried : List Reason) (w : List ℤ) (k : Query) (list : List ℤ) (r : Answer) (list′ : List ℤ) : Type 0 where
+-- the answer r to the query q and the list that it leaves, where these reasons to refuse it are tried
+pub record Answers (tried : List Reason) (w : List ℤ) (q : Query) (list : List ℤ) (r : Answer) (list′ : List ℤ) : Type 0 where
   pub refusal : First tried (answerNumber r)
-  pub accepted : answerNumber r ≡ 0 → Lists w k list r list′
-  pub counted : answerNumber r ≡ 10 → Counts w k r
+  pub accepted : answerNumber r ≡ 0 → Lists w q list r list′
+  pub counted : answerNumber r ≡ 10 → Counts w q r
   pub unchanged : (answerNumber r ≡ 0 → ⊥) → list′ ≡ list
 
 abbrev pub Queried : List ℤ → Type 0 → Query → List ℤ → Answer → List ℤ → Type 0
-Queried w Backward k list r list′ = Answers (reasons w Backward k list) w k list r list′
+Queried w Backward q list r list′ = Answers (reasons w Backward q list) w q list r list′

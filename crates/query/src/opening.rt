@@ -5,7 +5,7 @@ use node::entry::cell;
 use node::entry::child;
 use node::entry::count;
 use node::entry::until;
-use table::scan::node_at;
+use table::nodes::node_at;
 use track::meeting::meets;
 use track::queries::Query;
 use words::place;
@@ -20,44 +20,44 @@ ghost use Rattle.table.specs.Inner.Scan.{keyOf};
 ghost use Rattle.query.specs.Opened.{EntryMeets};
 ghost use Rattle.query.specs.Inner.Opening.{CanTest, CanOpen, OpensEntries};
 
-// Whether entry e meets the query; its node has `height` levels beneath it.
-fn entry_meets(node: &[i32], e: usize, height: usize, k: Query) -> bool
-    requires { ⌜ (e < fullNode) × CanTest k (isLeaf height) (entryAt (now node) e) ⌝ }
-    ensures { λ r. ⌜ Tells r (EntryMeets k (isLeaf height) (entryAt (now (node .entry)) e)) ⌝ }
+// Whether entry k meets the query; its node has `height` levels beneath it.
+fn entry_meets(node: &[i32], k: usize, height: usize, q: Query) -> bool
+    requires { ⌜ (k < fullNode) × CanTest q (isLeaf height) (entryAt (now node) k) ⌝ }
+    ensures { λ r. ⌜ Tells r (EntryMeets q (isLeaf height) (entryAt (now (node .entry)) k)) ⌝ }
 {
     let leaf = height == 0;
-    let last = until(node, e, leaf);
-    meets(bounds(node, e, leaf), last, k)
+    let last = until(node, k, leaf);
+    meets(bounds(node, k, leaf), last, q)
 }
 
-// The identifier of a leaf's entry e, as a key.
-fn key(node: &[i32], e: usize) -> u64
-    requires { ⌜ e < fullNode ⌝ }
-    ensures { λ r. ⌜ r ≡ keyOf (entryAt (now (node .entry)) e) ⌝ }
+// The identifier of a leaf's entry k, as a key.
+fn key(node: &[i32], k: usize) -> u64
+    requires { ⌜ k < fullNode ⌝ }
+    ensures { λ r. ⌜ r ≡ keyOf (entryAt (now (node .entry)) k) ⌝ }
 {
-    let c = cell(node, e);
+    let c = cell(node, k);
     place(c.id) as u64
 }
 
 // Tries the entries of node i from one on: a cell that meets is a hit, an inner entry that meets opens its child.
 pub fn open_entries(
     t: &[i32],
-    k: Query,
+    q: Query,
     height: usize,
     i: usize,
     from: usize,
     keys: &mut [u64],
     found: Found,
 ) -> Found
-    requires { ⌜ CanOpen (now t) k height i from (now keys) found ⌝ }
-    ensures { λ r. ⌜ OpensEntries (entriesAt (now (t .entry))) k height (drop from (entriesAt (now (t .entry)) i)) (now (keys .entry)) found r (now (keys .exit)) ⌝ }
+    requires { ⌜ CanOpen (now t) q height i from (now keys) found ⌝ }
+    ensures { λ r. ⌜ OpensEntries (entriesAt (now (t .entry))) q height (drop from (entriesAt (now (t .entry)) i)) (now (keys .entry)) found r (now (keys .exit)) ⌝ }
 {
     let node = node_at(t, i);
     if count(node) <= from {
         return found;
     }
-    if !entry_meets(node, from, height, k) {
-        return open_entries(t, k, height, i, from + 1, keys, found);
+    if !entry_meets(node, from, height, q) {
+        return open_entries(t, q, height, i, from + 1, keys, found);
     }
     let hits = found.hits;
     if height == 0 {
@@ -66,12 +66,12 @@ pub fn open_entries(
             hits: hits + 1,
             opened: found.opened,
         };
-        return open_entries(t, k, height, i, from + 1, keys, more);
+        return open_entries(t, q, height, i, from + 1, keys, more);
     }
     let entered = Found {
         hits,
         opened: found.opened + 1,
     };
-    let below = open_entries(t, k, height - 1, child(node, from), 0, keys, entered);
-    open_entries(t, k, height, i, from + 1, keys, below)
+    let below = open_entries(t, q, height - 1, child(node, from), 0, keys, entered);
+    open_entries(t, q, height, i, from + 1, keys, below)
 }

@@ -8,10 +8,6 @@ use Rattle.track.specs.declared.cell.Cell.{Cell}
 use Rattle.sheet.specs.Bytes.{bytesOf, wordInBytes}
 
 -- ---- sizes
--- the most cells that a sheet may have
-abbrev pub mostCells : ℕ
-mostCells = 256
-
 abbrev pub headerBytes : ℕ
 headerBytes = 16
 

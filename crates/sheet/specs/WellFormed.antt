@@ -50,22 +50,12 @@ sheetReasons limit bytes =
     12 when (RecordsSound bytes → ⊥) ∷
     []
 
--- each answer's number, count and clock: 0 and the sheet's, or the refusal's number and zeros
+-- each answer's number: 0, or the refusal's
 abbrev pub judgedNumber : Judged → ℕ
-judgedNumber (WellFormed n clock) = 0
+judgedNumber WellFormed = 0
 judgedNumber (Refused why) = number why
 
-abbrev pub judgedCount : Judged → ℕ
-judgedCount (WellFormed n clock) = n
-judgedCount (Refused why) = 0
-
-abbrev pub judgedClock : Judged → ℤ
-judgedClock (WellFormed n clock) = clock
-judgedClock (Refused why) = pos 0
-
--- what is found of bytes: the first refusal, or a sheet that is well formed, with its count and clock
+-- what is found of bytes: the first refusal, or a sheet that is well formed
 pub record Judges (limit : ℕ) (bytes : List ℕ) (r : Judged) : Type 0 where
   pub refusal : First (sheetReasons limit bytes) (judgedNumber r)
   pub sound : judgedNumber r ≡ 0 → SheetSound limit bytes
-  pub count : judgedNumber r ≡ 0 → judgedCount r ≡ recordCount bytes
-  pub clock : judgedNumber r ≡ 0 → judgedClock r ≡ clockOf bytes

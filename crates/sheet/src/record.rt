@@ -1,35 +1,32 @@
-// The header and the records of a sheet, read and written.
+// The records of a sheet, read and written, and where they stand.
 use crate::bytes::put_words;
 use crate::bytes::read_word;
 use track::cell::Cell;
 use track::minute::Minute;
-use words::number;
 ghost use mathlib.Core.Path.{_≡_};
 ghost use Prim.Native.Nat.{_+_, _^_, _<_, _≤_};
 ghost use lib.ListN.{length};
 ghost use Rattle.words.specs.Parts.{put};
-ghost use Rattle.sheet.specs.Sheet.{headerBytes, recordBytes, recordStart, totalFor, cellNumbers, headerOf, recordOf, cellAt};
+ghost use Rattle.sheet.specs.Sheet.{recordBytes, recordStart, totalFor, cellNumbers, recordOf, cellAt};
 
 // The sizes of specs/Sheet.antt, for the code.
-pub const MOST_CELLS: usize = 256;
+pub const HEADER_BYTES: usize = 16;
 
-pub const HEADER: usize = 16;
-
-pub const RECORD: usize = 24;
+const RECORD_BYTES: usize = 24;
 
 // How long a sheet of n cells is, which is also where record n starts.
 pub fn total_for(n: usize) -> usize
     requires { ⌜ n < 2 ^ 59 ⌝ }
     ensures { λ r. ⌜ r ≡ totalFor n ⌝ }
 {
-    HEADER + RECORD * n
+    HEADER_BYTES + RECORD_BYTES * n
 }
 
 // The cell of record k. A record past the end is told apart, since its place might wrap.
 pub fn cell_at(bytes: &[u8], k: usize) -> Cell
     ensures { λ r. ⌜ r ≡ cellAt (now (bytes .entry)) k ⌝ }
 {
-    if bytes.len() / RECORD < k {
+    if bytes.len() / RECORD_BYTES < k {
         return Cell {
             id: 0,
             x: 0,
@@ -50,15 +47,6 @@ pub fn cell_at(bytes: &[u8], k: usize) -> Cell
             at: read_word(bytes, at + 20),
         },
     }
-}
-
-// Writes the header of a sheet of n cells.
-pub fn put_header(bytes: &mut [u8], clock: i32, n: usize)
-    requires { ⌜ (totalFor n < 2 ^ 31) × (headerBytes ≤ length (now bytes)) ⌝ }
-    ensures { λ _. ⌜ now (bytes .exit) ≡ put (now (bytes .entry)) 0 headerBytes (headerOf clock n) ⌝ }
-{
-    let numbers = [number(n), number(HEADER), clock, number(total_for(n))];
-    put_words(bytes, 0, &numbers);
 }
 
 // The numbers of a cell's record.

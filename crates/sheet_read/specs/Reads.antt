@@ -7,13 +7,14 @@ use lib.IntN.{ℤ}
 use lib.ListN.{length, drop}
 use Rattle.whole.specs.Lists.{_∈_}
 use Rattle.words.specs.Words.{natOf}
+use Rattle.track.specs.Numbers.{mostCells}
 use Rattle.track.specs.Refusals.{Reason, _when_, First}
 use Rattle.track.specs.declared.cell.Cell.{Cell}
 use Rattle.node.specs.Entry.{stampOf}
 use Rattle.table.specs.Header.{capacityWord, clock, wordsFor}
 use Rattle.table.specs.Fresh.{freshReasons}
 use Rattle.table.specs.Sound.{Sound, held}
-use Rattle.sheet.specs.Sheet.{mostCells, recordCount, clockOf, cellsOf}
+use Rattle.sheet.specs.Sheet.{recordCount, clockOf, cellsOf}
 use Rattle.sheet.specs.WellFormed.{HeaderSound, RecordsSound}
 use Rattle.tree.specs.Steps.{outcomeNumber, inners}
 use Rattle.table.specs.SoundTree.{InnerEntry}

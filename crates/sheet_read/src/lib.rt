@@ -1,15 +1,15 @@
 // Reading a sheet into lent words, which become a table with the sheet's cells.
-use sheet::bytes::read_word;
-use sheet::judge::count_of;
-use sheet::judge::header_sound;
+use sheet::header::clock_of;
+use sheet::header::count_of;
+use sheet::header::sheet_header_sound;
 use sheet::judge::records_sound;
-use sheet::record::MOST_CELLS;
 use sheet::record::cell_at;
 use table::fresh::fresh;
 use table::header::is_capacity;
+use table::header::set_clock;
 use table::header::words_for;
+use track::range::MOST_CELLS;
 use track::refusal::Refusal;
-use tree::header::set_clock;
 use tree::outcome::Outcome;
 use tree::root::put_cell;
 use words::place;
@@ -20,7 +20,7 @@ ghost use Rattle.sheet_read.specs.Inner.ReadingSteps.{CanRead};
 ghost use Rattle.sheet_read.specs.Inner.Filling.{CanFill, Filled};
 
 // Whether these bytes can be read into these words as a table for so many cells. All is judged before a word is written, so a refusal leaves the words alone.
-fn judge(t: &[i32], cells: i32, bytes: &[u8]) -> Outcome
+fn judge_reading(t: &[i32], cells: i32, bytes: &[u8]) -> Outcome
     ensures { λ r. ⌜ First (readReasons cells (now (t .entry)) (now (bytes .entry))) (outcomeNumber r) ⌝ }
 {
     if !is_capacity(cells) {
@@ -30,7 +30,7 @@ fn judge(t: &[i32], cells: i32, bytes: &[u8]) -> Outcome
     if t.len() < words_for(most) {
         return Outcome::Refused(Refusal::ShortTable);
     }
-    if !header_sound(bytes, MOST_CELLS) {
+    if !sheet_header_sound(bytes, MOST_CELLS) {
         return Outcome::Refused(Refusal::BadHeader);
     }
     if most < count_of(bytes) {
@@ -61,7 +61,7 @@ fn replace(t: &mut [i32], cells: i32, bytes: &[u8])
     ensures { λ _. ⌜ IsRead cells (now (t .entry)) (now (bytes .entry)) (now (t .exit)) ⌝ }
 {
     fresh(&mut *t, cells);
-    let clock = read_word(bytes, 8);
+    let clock = clock_of(bytes);
     fill(&mut *t, bytes, clock);
     set_clock(t, clock);
 }
@@ -70,7 +70,7 @@ fn replace(t: &mut [i32], cells: i32, bytes: &[u8])
 pub fn read_sheet(t: &mut [i32], cells: i32, bytes: &[u8]) -> Outcome
     ensures { λ r. ⌜ ReadsSheet cells (now (t .entry)) (now (bytes .entry)) r (now (t .exit)) ⌝ }
 {
-    let judged = judge(t, cells, bytes);
+    let judged = judge_reading(t, cells, bytes);
     let Outcome::Accepted = judged else {
         return judged;
     };

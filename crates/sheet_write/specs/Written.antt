@@ -4,11 +4,12 @@ use mathlib.Core.List.{List, [], _∷_, _++_}
 use Prim.Native.Nat.{ℕ, _<_}
 use lib.IntN.{ℤ}
 use lib.ListN.{length, drop}
+use Rattle.track.specs.Numbers.{mostCells}
 use Rattle.track.specs.Refusals.{Reason, _when_, First, number}
 use Rattle.track.specs.declared.cell.Cell.{Cell}
 use Rattle.table.specs.Header.{clock}
 use Rattle.table.specs.Sound.{Sound}
-use Rattle.sheet.specs.Sheet.{mostCells, totalFor, sheetOf, clockOf, cellsOf}
+use Rattle.sheet.specs.Sheet.{totalFor, sheetOf, clockOf, cellsOf}
 use Rattle.sheet.specs.WellFormed.{SheetSound}
 use Rattle.leafing.specs.Leafed.{LiveCells}
 use Rattle.sheet_write.specs.declared.Written.{Written}

@@ -1,12 +1,12 @@
 // Writing a table's sheet into lent bytes.
 use leafing::search::Next;
 use leafing::search::next_of_sound;
-use sheet::record::put_header;
+use sheet::header::put_header;
 use sheet::record::put_record;
 use sheet::record::total_for;
+use table::header::clock;
 use table::sound::is_sound;
 use track::refusal::Refusal;
-use words::word;
 ghost use Rattle.table.specs.Sound.{Sound};
 ghost use Rattle.sheet_write.specs.Written.{WritesSheet};
 ghost use Rattle.sheet_write.specs.Inner.Passes.{CellsCounted, CanPutSheet, PutsSheet};
@@ -38,7 +38,7 @@ fn put_sheet(t: &[i32], bytes: &mut [u8], n: usize)
     requires { ⌜ CanPutSheet (now t) (now bytes) n ⌝ }
     ensures { λ _. ⌜ PutsSheet (now (t .entry)) (now (bytes .entry)) n (now (bytes .exit)) ⌝ }
 {
-    put_header(bytes, word(t, 1), n);
+    put_header(bytes, clock(t), n);
     let mut last = 0;
     let mut k = 0;
     while k < n {

@@ -5,6 +5,7 @@ use lib.IntN.{ℤ, pos}
 use lib.Signed.{_≤ℤ_, _<ℤ_}
 use Rattle.words.specs.Layout.{nodeStart, nodeAt}
 use Rattle.words.specs.Words.{wordAt, natOf}
+use Rattle.track.specs.Numbers.{mostCells}
 use Rattle.node.specs.Entry.{Entry, entriesOf}
 
 abbrev pub capacityWord : List ℤ → ℤ
@@ -30,7 +31,7 @@ height w = natOf (heightWord w)
 
 -- the greatest capacity
 abbrev pub greatestCapacity : ℕ
-greatestCapacity = 256
+greatestCapacity = mostCells
 
 pub record IsCapacity (n : ℤ) : Type 0 where
   pub from : pos 1 ≤ℤ n

@@ -1,4 +1,6 @@
 pub mod Frame
+pub mod Headed
+pub mod Walk
 pub mod ScanParts
 pub mod Scan
 pub mod Ready

@@ -1,9 +1,14 @@
 pub mod Header
+pub mod AtNode
+pub mod Headed
 pub mod Reach
 pub mod Covers
 pub mod Edges
 pub mod Counts
 pub mod Frame
 pub mod FreshMade
-pub mod Ready
 pub mod ScanParts
+pub mod Scan
+pub mod Ready
+pub mod SoundBy
+pub mod Walk

@@ -1,10 +1,13 @@
 // Making a fresh table in the lent words.
 use crate::header::is_capacity;
+use crate::header::nodes_for;
+use crate::header::set_capacity;
+use crate::header::set_clock;
+use crate::header::set_root;
 use crate::header::words_for;
 use node::change_at::keep_at;
 use track::refusal::Refusal;
 use words::place;
-use words::put_row;
 ghost use Prim.Native.Nat.{_≤_};
 ghost use lib.ListN.{length};
 ghost use Rattle.words.specs.Layout.{nodeStart};
@@ -35,8 +38,10 @@ fn write(t: &mut [i32], cells: i32)
     requires { ⌜ (IsCapacity cells) × (wordsFor (natOf cells) ≤ length (now t)) ⌝ }
     ensures { λ _. ⌜ IsFresh cells (now (t .entry)) (now (t .exit)) ⌝ }
 {
-    free_all(&mut *t, place(cells) / 2 + 1);
-    put_row(t, 0, [cells, 0, 0, 0]);
+    free_all(&mut *t, nodes_for(place(cells)));
+    set_capacity(&mut *t, cells);
+    set_clock(&mut *t, 0);
+    set_root(t, 0, 0);
 }
 
 pub fn fresh(t: &mut [i32], cells: i32) -> Made

@@ -1,72 +1,118 @@
-// The header of a table, and what a table of so many cells needs.
-use crate::scan::is_node;
-use crate::scan::node_at;
-use node::entry::count;
-use node::entry::is_counted;
+// The header of a table: its words are read and written here and nowhere else. And what a table of so many cells needs.
 use track::minute::is_minute;
+use track::range::MOST_CELLS;
 use words::node_start;
+use words::number;
 use words::place;
 use words::place_at;
 use words::word;
 ghost use mathlib.Core.Path.{_≡_};
-ghost use Prim.Native.Nat.{_≤_};
+ghost use Prim.Native.Nat.{_≤_, _<_, _^_};
+ghost use lib.ListN.{length};
 ghost use Rattle.whole.specs.Tells.{Tells};
-ghost use Rattle.table.specs.Header.{IsCapacity, wordsFor};
-ghost use Rattle.table.specs.Inner.SoundBy.{TableHeaderSound, RootSound};
+ghost use Rattle.words.specs.Layout.{header};
+ghost use Rattle.table.specs.Header.{capacity, clock, root, height, IsCapacity, IsNode, nodesFor, wordsFor};
+ghost use Rattle.table.specs.Inner.Headed.{CapacitySet, Clocked, Rooted};
+ghost use Rattle.table.specs.Inner.SoundBy.{TableHeaderSound};
 
-// The greatest capacity of a table.
-pub const CELLS: usize = 256;
+// The places of the header's words.
+const CAPACITY: usize = 0;
 
-// The nodes of a table of that capacity.
-pub const NODES: usize = 129;
+const CLOCK: usize = 1;
+
+const ROOT: usize = 2;
+
+const HEIGHT: usize = 3;
+
+// The nodes of a table for the most cells.
+pub const NODES: usize = MOST_CELLS / 2 + 1;
+
+pub fn capacity(t: &[i32]) -> usize
+    ensures { λ r. ⌜ (r ≡ capacity (now (t .entry))) × (r < 2 ^ 31) ⌝ }
+{
+    place_at(t, CAPACITY)
+}
+
+pub fn clock(t: &[i32]) -> i32
+    ensures { λ r. ⌜ r ≡ clock (now (t .entry)) ⌝ }
+{
+    word(t, CLOCK)
+}
+
+pub fn root(t: &[i32]) -> usize
+    ensures { λ r. ⌜ (r ≡ root (now (t .entry))) × (r < 2 ^ 31) ⌝ }
+{
+    place_at(t, ROOT)
+}
+
+pub fn height(t: &[i32]) -> usize
+    ensures { λ r. ⌜ (r ≡ height (now (t .entry))) × (r < 2 ^ 31) ⌝ }
+{
+    place_at(t, HEIGHT)
+}
+
+pub fn set_capacity(t: &mut [i32], cells: i32)
+    requires { ⌜ header ≤ length (now t) ⌝ }
+    ensures { λ _. ⌜ CapacitySet (now (t .entry)) cells (now (t .exit)) ⌝ }
+{
+    t[CAPACITY] = cells;
+}
+
+pub fn set_clock(t: &mut [i32], minute: i32)
+    requires { ⌜ header ≤ length (now t) ⌝ }
+    ensures { λ _. ⌜ Clocked (now (t .entry)) minute (now (t .exit)) ⌝ }
+{
+    t[CLOCK] = minute;
+}
+
+pub fn set_root(t: &mut [i32], root: usize, height: usize)
+    requires { ⌜ (header ≤ length (now t)) × (root < 2 ^ 31) × (height < 2 ^ 31) ⌝ }
+    ensures { λ _. ⌜ Rooted (now (t .entry)) root height (now (t .exit)) ⌝ }
+{
+    t[ROOT] = number(root);
+    t[HEIGHT] = number(height);
+}
 
 pub fn is_capacity(n: i32) -> bool
     ensures { λ r. ⌜ Tells r (IsCapacity n) ⌝ }
 {
-    if n < 1 {
-        return false;
-    }
-    place(n) <= CELLS
+    (1 <= n) & (place(n) <= MOST_CELLS)
+}
+
+// How many nodes a table of so many cells has.
+pub fn nodes_for(cells: usize) -> usize
+    ensures { λ r. ⌜ r ≡ nodesFor cells ⌝ }
+{
+    cells / 2 + 1
+}
+
+// How many nodes the table has.
+pub fn nodes(t: &[i32]) -> usize
+    ensures { λ r. ⌜ r ≡ nodesFor (capacity (now (t .entry))) ⌝ }
+{
+    nodes_for(capacity(t))
 }
 
 pub fn words_for(cells: usize) -> usize
-    requires { ⌜ cells ≤ 65536 ⌝ }
+    requires { ⌜ cells < 2 ^ 31 ⌝ }
     ensures { λ r. ⌜ r ≡ wordsFor cells ⌝ }
 {
-    node_start(cells / 2 + 1)
+    node_start(nodes_for(cells))
+}
+
+// Whether z is the number of a node in a table of so many cells.
+pub fn is_node(cells: usize, z: i32) -> bool
+    ensures { λ r. ⌜ Tells r (IsNode cells z) ⌝ }
+{
+    (0 <= z) & (place(z) < nodes_for(cells))
 }
 
 // Whether the lent words suffice for the capacity, and the header's other numbers are in range.
 pub fn header_sound(t: &[i32]) -> bool
     ensures { λ r. ⌜ Tells r (TableHeaderSound (now (t .entry))) ⌝ }
 {
-    if !is_capacity(word(t, 0)) {
-        return false;
-    }
-    if !is_minute(word(t, 1)) {
-        return false;
-    }
-    let cells = place_at(t, 0);
-    if t.len() < words_for(cells) {
-        return false;
-    }
-    if !is_node(cells, word(t, 2)) {
-        return false;
-    }
-    0 <= word(t, 3)
-}
-
-// Whether the root has a count of entries, at least 2 where it is no leaf.
-pub fn root_sound(t: &[i32]) -> bool
-    requires { ⌜ TableHeaderSound (now t) ⌝ }
-    ensures { λ r. ⌜ Tells r (RootSound (now (t .entry))) ⌝ }
-{
-    let root = node_at(t, place_at(t, 2));
-    if !is_counted(root) {
-        return false;
-    }
-    if place_at(t, 3) == 0 {
-        return true;
-    }
-    2 <= count(root)
+    let cells = capacity(t);
+    let enough = words_for(cells) <= t.len();
+    let rooted = is_node(cells, word(t, ROOT)) & (0 <= word(t, HEIGHT));
+    is_capacity(word(t, CAPACITY)) & is_minute(clock(t)) & enough & rooted
 }

@@ -1,4 +1,6 @@
 // The soundness test's pass over the tree, from a node down.
+use crate::header::is_node;
+use crate::nodes::node_at;
 use node::entry::cell;
 use node::entry::child;
 use node::entry::child_word;
@@ -8,19 +10,16 @@ use node::entry::stamp;
 use node::worked::is_worked_out;
 use track::cell::cell_in_range;
 use track::minute::is_minute;
-use words::NODE_WORDS;
-use words::node_start;
 use words::place;
-ghost use mathlib.Core.Path.{_≡_};
 ghost use Prim.Native.Nat.{_≤_, _<_};
 ghost use lib.ListN.{length};
 ghost use Rattle.whole.specs.Tells.{Tells};
-ghost use Rattle.words.specs.Layout.{InTable, nodeAt, entryAt, fullNode};
+ghost use Rattle.words.specs.Layout.{entryAt, fullNode};
 ghost use Rattle.node.specs.Entry.{entriesOf};
-ghost use Rattle.table.specs.Header.{IsNode, nodesFor, wordsFor, entriesAt};
+ghost use Rattle.table.specs.Header.{nodesFor, wordsFor, entriesAt};
 ghost use Rattle.table.specs.SoundTree.{EntrySound};
 ghost use Rattle.table.specs.Inner.ScanParts.{ChildSound, NoneAfter, StampSound};
-ghost use Rattle.table.specs.Inner.Scan.{EntryTaken, Entered, NodeCounted, Outcome};
+ghost use Rattle.table.specs.Inner.Scan.{EntryTaken, Entered, NodeCounted, PassOutcome};
 ghost use Rattle.table.specs.Inner.Ready.{Ready};
 
 // What a pass over some entries comes to: so many identifiers gathered, or something that is not sound.
@@ -29,30 +28,9 @@ pub enum Scan {
     Bad,
 }
 
-// The words of node i.
-pub fn node_at(t: &[i32], i: usize) -> &[i32]
-    requires { ⌜ InTable (now t) i ⌝ }
-    ensures { λ r. ⌜ now r ≡ nodeAt (now (t .entry)) i ⌝ }
-{
-    let a = node_start(i);
-    let e = a + NODE_WORDS;
-    &t[a..e]
-}
-
-// Whether z is the number of a node in a table of so many cells.
-pub fn is_node(cells: usize, z: i32) -> bool
-    requires { ⌜ cells ≤ 65536 ⌝ }
-    ensures { λ r. ⌜ Tells r (IsNode cells z) ⌝ }
-{
-    if z < 0 {
-        return false;
-    }
-    place(z) < cells / 2 + 1
-}
-
 // Whether entry k's child is a node of the table that is filled.
 fn child_sound(t: &[i32], cells: usize, n: &[i32], k: usize) -> bool
-    requires { ⌜ (cells ≤ 65536) × (wordsFor cells ≤ length (now t)) × (k < fullNode) ⌝ }
+    requires { ⌜ (wordsFor cells ≤ length (now t)) × (k < fullNode) ⌝ }
     ensures { λ r. ⌜ Tells r (ChildSound (entriesAt (now (t .entry))) cells (entryAt (now (n .entry)) k)) ⌝ }
 {
     let z = child_word(n, k);
@@ -82,10 +60,7 @@ fn stamp_sound(n: &[i32], k: usize, child: &[i32], below: usize, clock: i32) -> 
     ensures { λ r. ⌜ Tells r (StampSound below clock (entryAt (now (n .entry)) k) (entriesOf (now (child .entry)))) ⌝ }
 {
     let s = stamp(n, k);
-    if !is_minute(s) {
-        return false;
-    }
-    if clock < s {
+    if !(is_minute(s) & (s <= clock)) {
         return false;
     }
     if below == 0 {
@@ -96,7 +71,7 @@ fn stamp_sound(n: &[i32], k: usize, child: &[i32], below: usize, clock: i32) -> 
 
 // Whether entry k of the node n is sound; its child has `below` levels beneath it.
 fn entry_sound(t: &[i32], cells: usize, clock: i32, below: usize, n: &[i32], k: usize) -> bool
-    requires { ⌜ (cells ≤ 65536) × (wordsFor cells ≤ length (now t)) × (k < fullNode) ⌝ }
+    requires { ⌜ (wordsFor cells ≤ length (now t)) × (k < fullNode) ⌝ }
     ensures { λ r. ⌜ Tells r (EntrySound (entriesAt (now (t .entry))) cells clock below (entryAt (now (n .entry)) k)) ⌝ }
 {
     if !child_sound(t, cells, n, k) {
@@ -115,10 +90,7 @@ fn take_cell(n: &[i32], k: usize, cells: usize, keys: &mut [u64], m: usize) -> b
     ensures { λ r. ⌜ EntryTaken cells (entryAt (now (n .entry)) k) (now (keys .entry)) m r (now (keys .exit)) ⌝ }
 {
     let c = cell(n, k);
-    if !cell_in_range(c) {
-        return false;
-    }
-    if cells <= m {
+    if !(cell_in_range(c) & (m < cells)) {
         return false;
     }
     keys[m] = place(c.id) as u64;
@@ -135,7 +107,7 @@ fn enter(
     k: usize,
     marks: &mut [u8],
 ) -> bool
-    requires { ⌜ (cells ≤ 65536) × (wordsFor cells ≤ length (now t)) × (k < fullNode) × (nodesFor cells ≤ length (now marks)) ⌝ }
+    requires { ⌜ (wordsFor cells ≤ length (now t)) × (k < fullNode) × (nodesFor cells ≤ length (now marks)) ⌝ }
     ensures { λ r. ⌜ Entered (entriesAt (now (t .entry))) (NodeCounted (now (t .entry))) cells clock below (entryAt (now (n .entry)) k) (now (marks .entry)) r (now (marks .exit)) ⌝ }
 {
     if !entry_sound(t, cells, clock, below, n, k) {
@@ -165,7 +137,7 @@ pub fn pass(
     m: usize,
 ) -> Scan
     requires { ⌜ Ready (now t) cells node (now marks) (now keys) m ⌝ }
-    ensures { λ r. ⌜ Outcome (entriesAt (now (t .entry))) (NodeCounted (now (t .entry))) cells clock height (entriesAt (now (t .entry)) node) (now (marks .entry)) (now (keys .entry)) m r (now (marks .exit)) (now (keys .exit)) ⌝ }
+    ensures { λ r. ⌜ PassOutcome (entriesAt (now (t .entry))) (NodeCounted (now (t .entry))) cells clock height (entriesAt (now (t .entry)) node) (now (marks .entry)) (now (keys .entry)) m r (now (marks .exit)) (now (keys .exit)) ⌝ }
 {
     let n = node_at(t, node);
     let mut k = 0;

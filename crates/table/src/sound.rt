@@ -1,12 +1,17 @@
 // Whether a table is sound.
-use crate::header::CELLS;
 use crate::header::NODES;
+use crate::header::capacity;
+use crate::header::clock;
 use crate::header::header_sound;
-use crate::header::root_sound;
+use crate::header::height;
+use crate::header::nodes_for;
+use crate::header::root;
+use crate::nodes::count_at;
+use crate::nodes::node_at;
 use crate::scan::Scan;
-use crate::scan::node_at;
 use crate::scan::pass;
-use words::place_at;
+use node::entry::is_counted;
+use track::range::MOST_CELLS;
 use words::word;
 ghost use mathlib.Core.Path.{_≡_};
 ghost use Prim.Native.Nat.{_≤_};
@@ -17,6 +22,15 @@ ghost use Rattle.words.specs.Layout.{InTable};
 ghost use Rattle.table.specs.Header.{capacity, nodesFor, wordsFor};
 ghost use Rattle.table.specs.Sound.{Sound};
 ghost use Rattle.table.specs.Inner.SoundBy.{FreeUnless, RestFree, TableHeaderSound, RootSound, Clear};
+
+// Whether the root has a count of entries, at least 2 where it is no leaf.
+fn root_sound(t: &[i32]) -> bool
+    requires { ⌜ TableHeaderSound (now t) ⌝ }
+    ensures { λ r. ⌜ Tells r (RootSound (now (t .entry))) ⌝ }
+{
+    let i = root(t);
+    is_counted(node_at(t, i)) & ((height(t) == 0) | (2 <= count_at(t, i)))
+}
 
 // Whether node i is free, unless it has a mark.
 fn free_unless(t: &[i32], i: usize, mark: u8) -> bool
@@ -58,22 +72,13 @@ fn judged(t: &[i32], marks: &mut [u8], keys: &mut [u64]) -> bool
     requires { ⌜ (TableHeaderSound (now t)) × (RootSound (now t)) × (Clear (now marks) (now keys)) ⌝ }
     ensures { λ r. ⌜ Tells r (Sound (now (t .entry))) ⌝ }
 {
-    let cells = place_at(t, 0);
-    let root = place_at(t, 2);
-    marks[root] = 1;
-    match pass(
-        t,
-        cells,
-        word(t, 1),
-        place_at(t, 3),
-        root,
-        &mut *marks,
-        &mut *keys,
-        0,
-    ) {
+    let cells = capacity(t);
+    let i = root(t);
+    marks[i] = 1;
+    match pass(t, cells, clock(t), height(t), i, &mut *marks, &mut *keys, 0) {
         Scan::Bad => false,
         Scan::Passed(m) => {
-            if !rest_free(t, cells / 2 + 1, marks) {
+            if !rest_free(t, nodes_for(cells), marks) {
                 return false;
             }
             distinct(&mut keys[..m])
@@ -86,7 +91,7 @@ fn tree_sound(t: &[i32]) -> bool
     ensures { λ r. ⌜ Tells r (Sound (now (t .entry))) ⌝ }
 {
     let mut marks = [0u8; NODES];
-    let mut keys = [0u64; CELLS];
+    let mut keys = [0u64; MOST_CELLS];
     judged(t, &mut marks, &mut keys)
 }
 

@@ -1,30 +1,36 @@
--- What is told of a cell's report and a query on that cell, both handed over as numbers: 1 for yes, 0 for no, else the first refusal's number.
+-- What is told of a report and a query on its cell: 1 for yes, 0 for no, else the first refusal's number. `gives-fixed` says that one number only fits it.
 use mathlib.Core.List.{List, [], _∷_, _++_}
 use mathlib.Core.Logic.{_⊎_}
 use mathlib.Core.Path.{_≡_}
 use Prim.Native.Nat.{ℕ}
-use lib.IntN.{ℤ}
 use lib.Signed.{_<ℤ_}
 use Rattle.track.specs.Refusals.{Reason, _when_, firstGiven}
 use Rattle.track.specs.Report.{ReportInRange, keptCell, reportNumber, reportCell}
-use Rattle.track.specs.Query.{QueryInRange, Crossed, askedNumber, askedQuery}
+use Rattle.track.specs.Query.{QueryInRange, Crossed, EndsBeforeStart, EndsByStart, still, askedNumber, askedQuery}
 use Rattle.track.specs.Meets.{CellMeets}
 use Rattle.track.specs.declared.cell.Reported.{Reported}
+use Rattle.track.specs.declared.report.Report.{Report}
 use Rattle.track.specs.declared.queries.Query.{Query}
 use Rattle.track.specs.declared.queries.Asked.{Asked}
 
--- `Backward` is end before start for a window, and also end at start for a moving query
-abbrev pub meetingReasons : ℤ → ℤ → ℤ → ℤ → ℤ → ℤ → ℤ → Type 0 → Query → List Reason
-meetingReasons id x y vx vy minute expiry Backward k =
-    4 when (ReportInRange id x y vx vy minute expiry × QueryInRange k → ⊥) ∷
-    5 when (k .start .at <ℤ minute) ∷
-    6 when (expiry <ℤ minute) ∷
-    7 when (Backward ⊎ (Crossed (k .x) ⊎ Crossed (k .y))) ∷
+-- `Backward` is as in `queryReasons`
+abbrev pub meetingReasons : Report → Type 0 → Query → List Reason
+meetingReasons r Backward q =
+    4 when (ReportInRange r × QueryInRange q → ⊥) ∷
+    5 when (q .start .at <ℤ r .minute) ∷
+    6 when (r .expiry <ℤ r .minute) ∷
+    7 when (Backward ⊎ (Crossed (q .x) ⊎ Crossed (q .y))) ∷
     []
 
-abbrev pub meetingAnswers : ℤ → ℤ → ℤ → ℤ → ℤ → ℤ → ℤ → Type 0 → Query → List Reason
-meetingAnswers id x y vx vy minute expiry Backward k =
-    meetingReasons id x y vx vy minute expiry Backward k ++ 1 when CellMeets (keptCell id x y vx vy minute expiry) k ∷ []
+abbrev pub meetingAnswers : Report → Type 0 → Query → List Reason
+meetingAnswers r Backward q = meetingReasons r Backward q ++ 1 when CellMeets (keptCell r) q ∷ []
+
+-- of a window, and of a moving query
+abbrev pub windowAnswers : Report → Query → List Reason
+windowAnswers r q = meetingAnswers r (EndsBeforeStart q) (still q)
+
+abbrev pub movingAnswers : Report → Query → List Reason
+movingAnswers r q = meetingAnswers r (EndsByStart q) q
 
 -- of a report and a query that were each answered before: the first refusal's number, 0 where neither is refused
 abbrev pub refusalOf : Reported → Asked → ℕ

@@ -1,4 +1,5 @@
 -- The numbers of the trade: positions in units of 10 m, velocities in units a minute, minutes from 0 to 1,440.
+use Prim.Native.Nat.{ℕ}
 use lib.IntN.{ℤ, pos, _-ℤ_, _*ℤ_}
 use lib.Signed.{_≤ℤ_}
 use Rattle.whole.specs.Within.{Within}
@@ -28,3 +29,7 @@ IsKept = Within 837280
 -- a kept edge of an entry
 abbrev pub IsEdge : ℤ → Type 0
 IsEdge = Within 2311840
+
+-- the most cells that a table may be for
+abbrev pub mostCells : ℕ
+mostCells = 256

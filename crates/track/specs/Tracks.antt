@@ -8,7 +8,7 @@ use lib.IntN.{ℤ, pos, negℤ, _*ℤ_}
 use lib.ListN.{getD}
 use lib.Signed.{_≤ℤ_, leZ, leZ-yes}
 use Rattle.track.specs.Numbers.{kept}
-use Rattle.track.specs.Report.{keptCell}
+use Rattle.track.specs.Report.{keptCell, reportFrom}
 use Rattle.track.specs.Query.{queryFrom, windowFrom}
 use Rattle.track.specs.Meets.{Instant, InQuery, Row, Touches, MeetsAt, CellMeets, cellBounds}
 use Rattle.track.specs.Hull.{hull, lowAt, highAt}
@@ -48,16 +48,16 @@ pub data Claim : Type 0 where
 
 -- on one axis the row lies within the query's edges, at an instant of the query
 abbrev pub InsideOn : Query → Edges → Row → Instant → Type 0
-InsideOn k e row t = InQuery k t × Touches k e row t
+InsideOn q e row t = InQuery q t × Touches q e row t
 
 abbrev pub Holds : Claim → Type 0
-Holds (meets c k) = CellMeets c k
-Holds (misses c k) = CellMeets c k → ⊥
-Holds (meetsFrom c k s) = CellMeets c k × Throughout s (MeetsAt (cellBounds c) (c .expiry .at) k)
-Holds (missesApart c k x y) =
-    (CellMeets c k → ⊥) ×
-    Throughout x (InsideOn k (k .x) (getD (cellBounds c) 0 [])) ×
-    Throughout y (InsideOn k (k .y) (getD (cellBounds c) 1 []))
+Holds (meets c q) = CellMeets c q
+Holds (misses c q) = CellMeets c q → ⊥
+Holds (meetsFrom c q s) = CellMeets c q × Throughout s (MeetsAt (cellBounds c) (c .expiry .at) q)
+Holds (missesApart c q x y) =
+    (CellMeets c q → ⊥) ×
+    Throughout x (InsideOn q (q .x) (getD (cellBounds c) 0 [])) ×
+    Throughout y (InsideOn q (q .y) (getD (cellBounds c) 1 []))
 Holds (keeps x v t z) = kept x v t ≡ z
 Holds (spans r s stamp h minute lo hi) = (hull stamp r (s ∷ []) ≡ h) × (lowAt minute h ≡ lo) × (highAt minute h ≡ hi)
 
@@ -80,10 +80,10 @@ oneAndAHalf = instant (pos 3) (pos 2) tt
 
 -- a cell reported at (x, y) with velocity (vx, vy) at minute 0, until minute 40
 abbrev from : ℤ → ℤ → ℤ → ℤ → Cell
-from x y vx vy = keptCell (pos 1) x y vx vy (pos 0) (pos 40)
+from x y vx vy = keptCell (reportFrom (pos 1) x y vx vy (pos 0) (pos 40))
 
 abbrev cell7 : Cell
-cell7 = keptCell (pos 7) (pos 100) (pos 200) (pos 5) (negℤ (pos 3)) (pos 10) (pos 40)
+cell7 = keptCell (reportFrom (pos 7) (pos 100) (pos 200) (pos 5) (negℤ (pos 3)) (pos 10) (pos 40))
 
 abbrev point : ℤ → ℤ → ℤ → ℤ → Query
 point start end x y = windowFrom start end x x y y

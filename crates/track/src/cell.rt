@@ -5,6 +5,7 @@ use crate::range::is_kept;
 use crate::range::is_position;
 use crate::range::is_velocity;
 use crate::refusal::Refusal;
+use crate::report::Report;
 ghost use mathlib.Core.Path.{_≡_};
 ghost use Rattle.whole.specs.Tells.{Tells};
 ghost use Rattle.track.specs.Numbers.{IsPosition, IsVelocity, IsMinute, kept};
@@ -34,67 +35,38 @@ pub fn kept(at: i32, v: i32, t: i32) -> i32
     at - v * t
 }
 
-fn report_in_range(id: i32, x: i32, y: i32, vx: i32, vy: i32, minute: i32, expiry: i32) -> bool
-    ensures { λ r. ⌜ Tells r (ReportInRange id x y vx vy minute expiry) ⌝ }
+fn report_in_range(r: Report) -> bool
+    ensures { λ t. ⌜ Tells t (ReportInRange r) ⌝ }
 {
-    if !is_identifier(id) {
-        return false;
-    }
-    if !is_position(x) {
-        return false;
-    }
-    if !is_position(y) {
-        return false;
-    }
-    if !is_velocity(vx) {
-        return false;
-    }
-    if !is_velocity(vy) {
-        return false;
-    }
-    if !is_minute(minute) {
-        return false;
-    }
-    is_minute(expiry)
+    is_identifier(r.id)
+        & is_position(r.x)
+        & is_position(r.y)
+        & is_velocity(r.vx)
+        & is_velocity(r.vy)
+        & is_minute(r.minute)
+        & is_minute(r.expiry)
 }
 
 // Whether a cell that is kept has the ranges of one.
 pub fn cell_in_range(c: Cell) -> bool
     ensures { λ r. ⌜ Tells r (CellInRange c) ⌝ }
 {
-    if !is_identifier(c.id) {
-        return false;
-    }
-    if !is_kept(c.x) {
-        return false;
-    }
-    if !is_velocity(c.vx) {
-        return false;
-    }
-    if !is_kept(c.y) {
-        return false;
-    }
-    if !is_velocity(c.vy) {
-        return false;
-    }
-    is_minute(c.expiry.at)
+    is_identifier(c.id)
+        & is_kept(c.x)
+        & is_velocity(c.vx)
+        & is_kept(c.y)
+        & is_velocity(c.vy)
+        & is_minute(c.expiry.at)
 }
 
 impl Cell {
     // The cell of a report that is made when the clock stands at `clock`.
-    pub fn reported(
-        clock: i32,
-        id: i32,
-        x: i32,
-        y: i32,
-        vx: i32,
-        vy: i32,
-        minute: i32,
-        expiry: i32,
-    ) -> Reported
-        ensures { λ r. ⌜ Reports clock id x y vx vy minute expiry r ⌝ }
+    pub fn reported(clock: i32, r: Report) -> Reported
+        ensures { λ answer. ⌜ Reports clock r answer ⌝ }
     {
-        let outside = !report_in_range(id, x, y, vx, vy, minute, expiry);
+        let minute = r.minute;
+        let expiry = r.expiry;
+        let outside = !report_in_range(r);
         let early = minute < clock;
         if outside {
             return Reported::Refused(Refusal::OutOfRange);
@@ -106,11 +78,11 @@ impl Cell {
             return Reported::Refused(Refusal::ExpiresFirst);
         }
         Reported::Kept(Cell {
-            id,
-            x: kept(x, vx, minute),
-            vx,
-            y: kept(y, vy, minute),
-            vy,
+            id: r.id,
+            x: kept(r.x, r.vx, minute),
+            vx: r.vx,
+            y: kept(r.y, r.vy, minute),
+            vy: r.vy,
             expiry: Minute { at: expiry },
         })
     }

@@ -17,8 +17,5 @@ pub fn is_minute(m: i32) -> bool
 {
     let first = Minute::FIRST;
     let last = Minute::LAST;
-    if m < first.at {
-        return false;
-    }
-    m <= last.at
+    (first.at <= m) & (m <= last.at)
 }

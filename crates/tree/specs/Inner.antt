@@ -1,4 +1,3 @@
-pub mod Headed
 pub mod Holding
 pub mod Grow
 pub mod PutCell

@@ -4,9 +4,9 @@ pub mod SoundWhole
 pub mod Stepping
 pub mod Clear
 pub mod Grow
-pub mod Headed
 pub mod Holding
 pub mod Outcomes
 pub mod PutCell
 pub mod Settle
+pub mod Staying
 pub mod StayingCells

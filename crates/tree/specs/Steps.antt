@@ -1,8 +1,8 @@
 -- What a report and a drop answer, and the table that they leave.
 use mathlib.Core.Path.{_≡_}
 use mathlib.Core.Logic.{_⊎_}
-use mathlib.Core.List.{List, [], _∷_, _++_, map, flatMap}
-use Prim.Native.Nat.{ℕ, zero, suc}
+use mathlib.Core.List.{List, [], _∷_, _++_}
+use Prim.Native.Nat.{ℕ}
 use lib.IntN.{ℤ}
 use lib.ListN.{length, drop}
 use lib.Signed.{_<ℤ_}
@@ -12,7 +12,8 @@ use Rattle.track.specs.Life.{LivesAt}
 use Rattle.track.specs.Refusals.{Reason, _when_, First, number}
 use Rattle.track.specs.Report.{reportReasons, keptCell}
 use Rattle.track.specs.declared.cell.Cell.{Cell}
-use Rattle.node.specs.Entry.{Entry, childOf, stampOf}
+use Rattle.track.specs.declared.report.Report.{Report}
+use Rattle.node.specs.Entry.{childOf, stampOf}
 use Rattle.table.specs.Header.{capacityWord, capacity, clock, root, height, wordsFor, entriesAt}
 use Rattle.table.specs.SoundTree.{nodesOf, InnerEntry, innersOf}
 use Rattle.table.specs.Sound.{held, Live, Sound}
@@ -66,18 +67,17 @@ pub record Step (w w′ : List ℤ) (minute : ℤ) (Left : Cell → Type 0) : Ty
   pub rest-kept : drop (wordsFor (capacity w)) w′ ≡ drop (wordsFor (capacity w)) w
 
 -- ---- a report
-abbrev pub reportRefusals : List ℤ → ℤ → ℤ → ℤ → ℤ → ℤ → ℤ → ℤ → List Reason
-reportRefusals w id x y vx vy minute expiry =
-    1 when (Sound w → ⊥) ∷ (reportReasons (clock w) id x y vx vy minute expiry ++ (9 when NoRoom w minute id ∷ []))
+abbrev pub reportRefusals : List ℤ → Report → List Reason
+reportRefusals w r = 1 when (Sound w → ⊥) ∷ (reportReasons (clock w) r ++ (9 when NoRoom w (r .minute) (r .id) ∷ []))
 
 -- the reported cell is live afterwards, and the others that live at the minute
-abbrev pub LeftByReport : List ℤ → ℤ → ℤ → ℤ → ℤ → ℤ → ℤ → ℤ → Cell → Type 0
-LeftByReport w id x y vx vy minute expiry c = (c ≡ keptCell id x y vx vy minute expiry) ⊎ Stays w minute id c
+abbrev pub LeftByReport : List ℤ → Report → Cell → Type 0
+LeftByReport w r c = (c ≡ keptCell r) ⊎ Stays w (r .minute) (r .id) c
 
 -- n is the call's number, and w′ what it leaves
-pub record ReportSteps (w : List ℤ) (id x y vx vy minute expiry : ℤ) (n : ℕ) (w′ : List ℤ) : Type 0 where
-  pub refusal : First (reportRefusals w id x y vx vy minute expiry) n
-  pub accepted : n ≡ 0 → Step w w′ minute (LeftByReport w id x y vx vy minute expiry)
+pub record ReportSteps (w : List ℤ) (r : Report) (n : ℕ) (w′ : List ℤ) : Type 0 where
+  pub refusal : First (reportRefusals w r) n
+  pub accepted : n ≡ 0 → Step w w′ (r .minute) (LeftByReport w r)
   pub refused : (n ≡ 0 → ⊥) → w′ ≡ w
 
 -- ---- a drop

@@ -1,17 +1,20 @@
 // Reports and drops: the calls that change a table.
 use crate::clear::clear;
 use crate::count::staying;
-use crate::header::set_clock;
 use crate::outcome::Outcome;
 use crate::root::put_cell;
+use table::header::capacity;
+use table::header::clock;
+use table::header::height;
+use table::header::root;
+use table::header::set_clock;
 use table::sound::is_sound;
 use track::cell::Cell;
 use track::cell::Reported;
 use track::minute::is_minute;
 use track::range::is_identifier;
 use track::refusal::Refusal;
-use words::place_at;
-use words::word;
+use track::report::Report;
 ghost use mathlib.Core.Path.{_≡_};
 ghost use Rattle.whole.specs.Tells.{Tells};
 ghost use Rattle.table.specs.Sound.{Sound};
@@ -24,7 +27,7 @@ fn staying_in(t: &[i32], minute: i32, id: i32) -> usize
     requires { ⌜ Sound (now t) ⌝ }
     ensures { λ r. ⌜ r ≡ manyStay (now (t .entry)) minute id ⌝ }
 {
-    staying(t, place_at(t, 3), place_at(t, 2), 0, minute, id)
+    staying(t, height(t), root(t), 0, minute, id)
 }
 
 // Puts the cell of an accepted report in, unless as many others live as there is room for.
@@ -32,7 +35,7 @@ fn take_in(t: &mut [i32], c: Cell, minute: i32) -> Outcome
     requires { ⌜ CanReport (now t) minute c ⌝ }
     ensures { λ r. ⌜ CellSteps (now (t .entry)) minute c (outcomeNumber r) (now (t .exit)) ⌝ }
 {
-    if place_at(t, 0) <= staying_in(t, minute, c.id) {
+    if capacity(t) <= staying_in(t, minute, c.id) {
         return Outcome::Refused(Refusal::Full);
     }
     clear(&mut *t, minute, c.id);
@@ -42,24 +45,15 @@ fn take_in(t: &mut [i32], c: Cell, minute: i32) -> Outcome
 }
 
 // Puts a cell in, in the place of a live one of the same identifier, and sets the clock.
-pub fn report(
-    t: &mut [i32],
-    id: i32,
-    x: i32,
-    y: i32,
-    vx: i32,
-    vy: i32,
-    minute: i32,
-    expiry: i32,
-) -> Outcome
-    ensures { λ r. ⌜ ReportSteps (now (t .entry)) id x y vx vy minute expiry (outcomeNumber r) (now (t .exit)) ⌝ }
+pub fn report(t: &mut [i32], r: Report) -> Outcome
+    ensures { λ outcome. ⌜ ReportSteps (now (t .entry)) r (outcomeNumber outcome) (now (t .exit)) ⌝ }
 {
     if !is_sound(t) {
         return Outcome::Refused(Refusal::NotSound);
     }
-    let reported = Cell::reported(word(t, 1), id, x, y, vx, vy, minute, expiry);
+    let reported = Cell::reported(clock(t), r);
     match reported {
-        Reported::Kept(c) => take_in(t, c, minute),
+        Reported::Kept(c) => take_in(t, c, r.minute),
         Reported::Refused(why) => Outcome::Refused(why),
     }
 }
@@ -67,10 +61,7 @@ pub fn report(
 fn drop_in_range(id: i32, minute: i32) -> bool
     ensures { λ r. ⌜ Tells r (DropInRange id minute) ⌝ }
 {
-    if !is_identifier(id) {
-        return false;
-    }
-    is_minute(minute)
+    is_identifier(id) & is_minute(minute)
 }
 
 // Takes a live cell out and sets the clock.
@@ -83,7 +74,7 @@ pub fn drop(t: &mut [i32], id: i32, minute: i32) -> Outcome
     if !drop_in_range(id, minute) {
         return Outcome::Refused(Refusal::OutOfRange);
     }
-    if minute < word(t, 1) {
+    if minute < clock(t) {
         return Outcome::Refused(Refusal::BeforeClock);
     }
     // No cell has the identifier 0, so fewer stay beside this one only if it is there.

@@ -1,9 +1,7 @@
 // How many cells stay when those that go are cleared out.
-use node::entry::cell;
-use table::scan::node_at;
-use tree_nodes::at::child_at;
-use tree_nodes::at::count_at;
-use tree_nodes::take::goes;
+use table::nodes::child_at;
+use table::nodes::count_at;
+use tree_nodes::take::goes_at;
 ghost use mathlib.Core.Path.{_≡_};
 ghost use Rattle.tree.specs.Inner.Staying.{CanCount, stayFrom};
 
@@ -17,7 +15,7 @@ pub fn staying(t: &[i32], h: usize, i: usize, k: usize, minute: i32, id: i32) ->
     }
     let rest = staying(t, h, i, k + 1, minute, id);
     if h == 0 {
-        if goes(cell(node_at(t, i), k), minute, id) {
+        if goes_at(t, i, k, minute, id) {
             return rest;
         }
         return rest + 1;

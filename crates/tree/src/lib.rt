@@ -2,6 +2,5 @@
 pub mod change;
 pub mod clear;
 pub mod count;
-pub mod header;
 pub mod outcome;
 pub mod root;

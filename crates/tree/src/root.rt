@@ -1,15 +1,16 @@
 // The root of a table's tree: it grows, and a cell is put in below it. How it gives way is in clear.rt.
-use crate::header::set_root;
 use node::change_at::append_at;
+use table::header::height;
+use table::header::nodes;
+use table::header::root;
+use table::header::set_root;
+use table::nodes::count_at;
 use track::cell::Cell;
 use tree_nodes::afresh::entry_above;
-use tree_nodes::at::count_at;
-use tree_nodes::at::nodes_of;
 use tree_nodes::free::free_node;
 use tree_nodes::part::part_child;
 use tree_nodes::put::put_in;
 use words::FULL_NODE;
-use words::place_at;
 ghost use Rattle.track.specs.Life.{CellInRange};
 ghost use Rattle.node.specs.Inner.Made.{leafEntry};
 ghost use Rattle.tree.specs.Inner.Grow.{CanGrow, Grown};
@@ -20,13 +21,13 @@ fn grow(t: &mut [i32], minute: i32)
     requires { ⌜ CanGrow (now t) minute ⌝ }
     ensures { λ _. ⌜ Grown (now (t .entry)) minute (now (t .exit)) ⌝ }
 {
-    let root = place_at(t, 2);
-    let height = place_at(t, 3);
-    let above = free_node(t, nodes_of(t));
-    let e = entry_above(t, root, height == 0, minute);
+    let old = root(t);
+    let h = height(t);
+    let above = free_node(t, nodes(t));
+    let e = entry_above(t, old, h == 0, minute);
     append_at(&mut *t, above, e);
-    set_root(&mut *t, above, height + 1);
-    part_child(t, height, above, 0, minute);
+    set_root(&mut *t, above, h + 1);
+    part_child(t, h, above, 0, minute);
 }
 
 // Makes room in the root.
@@ -34,8 +35,7 @@ fn make_room(t: &mut [i32], minute: i32)
     requires { ⌜ HasRoom (now t) minute ⌝ }
     ensures { λ _. ⌜ Grown (now (t .entry)) minute (now (t .exit)) ⌝ }
 {
-    let root = place_at(t, 2);
-    if count_at(t, root) < FULL_NODE {
+    if count_at(t, root(t)) < FULL_NODE {
         return;
     }
     grow(t, minute);
@@ -47,7 +47,7 @@ pub fn put_cell(t: &mut [i32], c: Cell, minute: i32)
     ensures { λ _. ⌜ PutCell (now (t .entry)) minute (leafEntry c) (now (t .exit)) ⌝ }
 {
     make_room(&mut *t, minute);
-    let height = place_at(t, 3);
-    let root = place_at(t, 2);
-    put_in(t, height, root, c, minute);
+    let h = height(t);
+    let i = root(t);
+    put_in(t, h, i, c, minute);
 }

@@ -1,4 +1,5 @@
 // The area that bounds cover over the coming minutes: the integral of the paper on the TPR-tree, §3.3, formula 1.
+use track::meeting::Bounds;
 use whole::wide;
 ghost use mathlib.Core.Path.{_≡_};
 ghost use lib.IntN.{pos, _+ℤ_, _-ℤ_, _*ℤ_};
@@ -155,7 +156,7 @@ impl Cover {
     }
 
     // What the bounds cover at the minute.
-    pub fn of(b: [[i32; 4]; 2], minute: i32) -> Cover
+    pub fn of(b: Bounds, minute: i32) -> Cover
         ensures { λ r. ⌜ r ≡ coverOf b minute ⌝ }
     {
         Cover {

@@ -2,6 +2,7 @@
 use crate::area::Cover;
 use node::entry::bounds;
 use node::entry::count;
+use track::meeting::Bounds;
 ghost use mathlib.Core.Path.{_≡_};
 ghost use Prim.Native.Nat.{_<_};
 ghost use Rattle.whole.specs.Tells.{Tells};
@@ -28,7 +29,7 @@ impl Cost {
 }
 
 // What it costs entry k to take in what has these bounds.
-fn cost_of(node: &[i32], k: usize, b: [[i32; 4]; 2], minute: i32) -> Cost
+fn cost_of(node: &[i32], k: usize, b: Bounds, minute: i32) -> Cost
     requires { ⌜ k < fullNode ⌝ }
     ensures { λ r. ⌜ r ≡ childCost (now (node .entry)) k b minute ⌝ }
 {
@@ -42,7 +43,7 @@ fn cost_of(node: &[i32], k: usize, b: [[i32; 4]; 2], minute: i32) -> Cost
 }
 
 // The entry that takes in these bounds at the least cost, the first of several.
-pub fn best_child(node: &[i32], b: [[i32; 4]; 2], minute: i32) -> usize
+pub fn best_child(node: &[i32], b: Bounds, minute: i32) -> usize
     requires { ⌜ 0 < entryCount (now node) ⌝ }
     ensures { λ r. ⌜ Cheapest (now (node .entry)) b minute r ⌝ }
 {
@@ -62,7 +63,7 @@ pub fn best_child(node: &[i32], b: [[i32; 4]; 2], minute: i32) -> usize
 }
 
 // Which of two entries takes in these bounds at the lesser cost, the first where they are equal.
-pub fn better_child(node: &[i32], j: usize, k: usize, b: [[i32; 4]; 2], minute: i32) -> usize
+pub fn better_child(node: &[i32], j: usize, k: usize, b: Bounds, minute: i32) -> usize
     requires { ⌜ (j < fullNode) × (k < fullNode) ⌝ }
     ensures { λ r. ⌜ CheaperOf (now (node .entry)) j k b minute r ⌝ }
 {

@@ -1,6 +1,5 @@
 pub mod Weights
 pub mod InnerEntries
-pub mod Places
 pub mod Moved
 pub mod Climb
 pub mod Used

@@ -1,4 +1,3 @@
-pub mod AtNode
 pub mod PartedTree
 pub mod EntryAfresh
 pub mod FirstFree
@@ -8,3 +7,5 @@ pub mod PartChild
 pub mod Puts
 pub mod Shift
 pub mod Way
+pub mod Mend
+pub mod Takes

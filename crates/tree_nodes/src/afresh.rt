@@ -2,7 +2,7 @@
 use node::change_at::put_at;
 use node::made::inner_entry;
 use node::made::work_out;
-use table::scan::node_at;
+use table::nodes::node_at;
 use words::Entry;
 ghost use mathlib.Core.Path.{_≡_};
 ghost use Prim.Native.Nat.{_^_, _<_};

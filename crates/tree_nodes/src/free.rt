@@ -1,6 +1,6 @@
 // Finding a free node.
 use node::entry::count;
-use table::scan::node_at;
+use table::nodes::node_at;
 ghost use Prim.Native.Nat.{_≤_};
 ghost use lib.ListN.{length};
 ghost use Rattle.words.specs.Layout.{nodeStart};

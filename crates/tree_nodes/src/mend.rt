@@ -1,9 +1,9 @@
 // A node mended after an entry was taken out below one of its children.
 use crate::afresh::refresh;
-use crate::at::child_at;
-use crate::at::count_at;
 use crate::shift::move_entry;
 use node::change_at::remove_at;
+use table::nodes::child_at;
+use table::nodes::count_at;
 use tree_choice::parting::FEWEST;
 ghost use Prim.Native.Nat.{_≤_, _<_};
 ghost use lib.ListN.{length};

@@ -1,12 +1,12 @@
 // A full node parted.
 use crate::afresh::entry_above;
 use crate::afresh::refresh;
-use crate::at::child_at;
-use crate::at::nodes_of;
 use crate::free::free_node;
 use crate::shift::move_marked;
 use node::change_at::append_at;
-use table::scan::node_at;
+use table::header::nodes;
+use table::nodes::child_at;
+use table::nodes::node_at;
 use tree_choice::parting::parting;
 ghost use Rattle.tree_nodes.specs.Inner.PartChild.{CanPartChild, Parted};
 
@@ -17,7 +17,7 @@ pub fn part_child(t: &mut [i32], h: usize, i: usize, k: usize, minute: i32)
 {
     let leaf = h == 0;
     let full = child_at(t, i, k);
-    let node = free_node(t, nodes_of(t));
+    let node = free_node(t, nodes(t));
     let marks = parting(node_at(t, full), leaf, minute);
     move_marked(&mut *t, full, node, marks);
     refresh(&mut *t, i, k, full, leaf, minute);

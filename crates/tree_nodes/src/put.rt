@@ -1,12 +1,13 @@
 // Putting a cell in.
 use crate::afresh::refresh;
-use crate::at::child_at;
-use crate::at::count_at;
 use crate::part::part_child;
 use node::change_at::append_at;
 use node::made::leaf_entry;
-use table::scan::node_at;
+use table::nodes::child_at;
+use table::nodes::count_at;
+use table::nodes::node_at;
 use track::cell::Cell;
+use track::meeting::Bounds;
 use track::meeting::cell_bounds;
 use tree_choice::child::best_child;
 use tree_choice::child::better_child;
@@ -18,7 +19,7 @@ ghost use Rattle.tree_nodes.specs.Inner.Way.{CanPutIn, Way};
 ghost use Rattle.tree_nodes.specs.Inner.Puts.{Puts};
 
 // Chooses the child of node i that takes these bounds in at the least cost; it has h levels beneath it. A full one is parted first.
-pub fn way_down(t: &mut [i32], h: usize, i: usize, b: [[i32; 4]; 2], minute: i32) -> usize
+pub fn way_down(t: &mut [i32], h: usize, i: usize, b: Bounds, minute: i32) -> usize
     requires { ⌜ CanPutIn (now t) minute (suc h) i ⌝ }
     ensures { λ r. ⌜ Way (now (t .entry)) minute h i r (now (t .exit)) ⌝ }
 {

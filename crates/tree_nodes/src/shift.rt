@@ -2,6 +2,7 @@
 use node::change_at::append_at;
 use node::change_at::entry_at;
 use node::change_at::remove_at;
+use tree_choice::parting::Marks;
 use words::FULL_NODE;
 ghost use Rattle.tree_choice.specs.Parting.{marked};
 ghost use Rattle.table.specs.Header.{capacity};
@@ -19,7 +20,7 @@ pub fn move_entry(t: &mut [i32], from: usize, k: usize, to: usize)
 }
 
 // Moves the marked entries of a full node to a free one, the last first, so that those before them keep their places.
-pub fn move_marked(t: &mut [i32], from: usize, to: usize, marks: [bool; 8])
+pub fn move_marked(t: &mut [i32], from: usize, to: usize, marks: Marks)
     requires { ⌜ CanPart (now t) from to marks ⌝ }
     ensures { λ _. ⌜ Shifted (capacity (now (t .entry))) (now (t .entry)) from to (marked marks) (now (t .exit)) ⌝ }
 {

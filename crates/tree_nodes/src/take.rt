@@ -1,23 +1,34 @@
 // Taking a cell out.
-use crate::at::child_at;
-use crate::at::count_at;
 use crate::mend::mend;
 use node::change_at::remove_at;
 use node::entry::cell;
-use table::scan::node_at;
+use table::nodes::child_at;
+use table::nodes::count_at;
+use table::nodes::node_at;
 use track::cell::Cell;
+ghost use mathlib.Core.List.{[]};
+ghost use Prim.Native.Nat.{_<_};
+ghost use lib.ListN.{length, getD};
 ghost use Rattle.whole.specs.Tells.{Tells};
+ghost use Rattle.words.specs.Layout.{InTable};
+ghost use Rattle.node.specs.Entry.{cellOf};
+ghost use Rattle.table.specs.Header.{entriesAt};
 ghost use Rattle.tree_laws.specs.Inner.Goes.{Goes};
 ghost use Rattle.tree_nodes.specs.Inner.Takes.{CanTake, Takes};
 
 // Whether the cell's life ended before the minute, or it is the one with this identifier.
-pub fn goes(c: Cell, minute: i32, id: i32) -> bool
+fn goes(c: Cell, minute: i32, id: i32) -> bool
     ensures { λ r. ⌜ Tells r (Goes minute id c) ⌝ }
 {
-    if c.expiry.at < minute {
-        return true;
-    }
-    c.id == id
+    (c.expiry.at < minute) | (c.id == id)
+}
+
+// Whether the cell goes that entry k of the leaf i is.
+pub fn goes_at(t: &[i32], i: usize, k: usize, minute: i32, id: i32) -> bool
+    requires { ⌜ (InTable (now t) i) × (k < length (entriesAt (now t) i)) ⌝ }
+    ensures { λ r. ⌜ Tells r (Goes minute id (cellOf (getD (entriesAt (now (t .entry)) i) k []))) ⌝ }
+{
+    goes(cell(node_at(t, i), k), minute, id)
 }
 
 // Takes out the first cell that goes, of those below node i from its entry k on, and tells whether there is one. The node has h levels beneath it.
@@ -29,7 +40,7 @@ pub fn take_out(t: &mut [i32], h: usize, i: usize, k: usize, minute: i32, id: i3
         return false;
     }
     if h == 0 {
-        if goes(cell(node_at(t, i), k), minute, id) {
+        if goes_at(t, i, k, minute, id) {
             remove_at(t, i, k);
             return true;
         }

@@ -1,3 +1,2 @@
 pub mod SheetAnswer
-pub mod WindowAnswer
 pub mod Laws

@@ -1,13 +1,17 @@
 // What the C viewer asks, on plain numbers and on bytes.
 use sheet::judge::Judged;
 use sheet::judge::judge;
-use sheet::record::MOST_CELLS;
 use track::cell::Cell;
 use track::meeting::answer;
 use track::minute::Minute;
 use track::queries::Query;
+use track::queries::window_from;
+use track::range::MOST_CELLS;
+use track::report::report_from;
+ghost use Rattle.track.specs.Answer.{windowAnswers};
+ghost use Rattle.track.specs.Query.{windowFrom};
 ghost use Rattle.track.specs.Refusals.{Gives};
-ghost use Rattle.viewer.specs.WindowAnswer.{windowAnswers};
+ghost use Rattle.track.specs.Report.{reportFrom};
 ghost use Rattle.viewer.specs.SheetAnswer.{sheetAnswers};
 
 // Whether the cell of a report meets a window: 1 for yes, 0 for no, else the refusal's number. The report's
@@ -28,11 +32,13 @@ pub extern "C" fn bradawlet_meets(
     ylow: i32,
     yhigh: i32,
 ) -> i32
-    ensures { λ r. ⌜ Gives (windowAnswers id x y vx vy minute expiry start end xlow xhigh ylow yhigh) r ⌝ }
+    ensures { λ r. ⌜ Gives (windowAnswers (reportFrom id x y vx vy minute expiry) (windowFrom start end xlow xhigh ylow yhigh)) r ⌝ }
 {
     let first = Minute::FIRST;
-    let reported = Cell::reported(first.at, id, x, y, vx, vy, minute, expiry);
-    let asked = Query::window(minute, start, end, xlow, xhigh, ylow, yhigh);
+    let report = report_from(id, x, y, vx, vy, minute, expiry);
+    let window = window_from(start, end, xlow, xhigh, ylow, yhigh);
+    let reported = Cell::reported(first.at, report);
+    let asked = Query::window(minute, window);
     answer(reported, asked)
 }
 
@@ -43,7 +49,7 @@ pub extern "C" fn bradawlet_sheet(bytes: &[u8]) -> i32
 {
     let judged = judge(bytes, MOST_CELLS);
     match judged {
-        Judged::WellFormed { count: _, clock: _ } => 1,
+        Judged::WellFormed => 1,
         Judged::Refused(why) => why.number(),
     }
 }

@@ -1,4 +1,4 @@
--- What stands in a list: membership by place, through `take`, a test and a gathering, and lists in which nothing stands twice.
+-- What stands in a list: membership, the members that pass a test, and lists in which nothing stands twice.
 -- Membership in ++ and in map is of mathlib.Core.List: Memᴰ·append-left, Memᴰ·append-right, List·Memᴰ·append-cases, Memᴰ·map, Memᴰ·of-map.
 use mathlib.Core.Bool.{Bool, true, false}
 use mathlib.Core.List.{List, [], _∷_, List·Memᴰ}

@@ -36,10 +36,6 @@ nodeStart i = header + nodeWords * i
 abbrev pub entryOffset : ℕ → ℕ
 entryOffset k = ownWords + entryWords * k
 
--- the place of the first word of node i's entry k in the table
-abbrev pub entryStart : ℕ → ℕ → ℕ
-entryStart i k = nodeStart i + entryOffset k
-
 -- node i lies in the table
 abbrev pub InTable : {A : Type 0} → List A → ℕ → Type 0
 InTable w i = nodeStart i + nodeWords ≤ length w

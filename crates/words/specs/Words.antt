@@ -1,9 +1,8 @@
 -- What the words of a table are read as: a number, a count, a row of four numbers, two rows. A word past the end is read as 0.
-use mathlib.Core.Path.{_≡_}
-use mathlib.Core.List.{List, [], _∷_, _++_}
+use mathlib.Core.List.{List, [], _∷_}
 use Prim.Native.Nat.{ℕ, _+_}
 use lib.IntN.{ℤ, pos, negsuc}
-use lib.ListN.{length, getD, set}
+use lib.ListN.{getD, set}
 
 -- the word at `at`
 abbrev pub wordAt : List ℤ → ℕ → ℤ
@@ -21,16 +20,6 @@ rowAt w at = wordAt w at ∷ wordAt w (at + 1) ∷ wordAt w (at + 2) ∷ wordAt 
 -- the two rows that stand one after the other from `at` on
 abbrev pub rowsAt : List ℤ → ℕ → List (List ℤ)
 rowsAt w at = rowAt w at ∷ rowAt w (at + 4) ∷ []
-
--- two rows as they stand one after the other
-abbrev pub inLine : List (List ℤ) → List ℤ
-inLine b = getD b 0 [] ++ getD b 1 []
-
--- b is two rows of four
-pub record TwoRows (b : List (List ℤ)) : Type 0 where
-  pub two : length b ≡ 2
-  pub first : length (getD b 0 []) ≡ 4
-  pub second : length (getD b 1 []) ≡ 4
 
 -- a node with n for the count of its entries, which is its first word
 unfoldable pub withCount : List ℤ → ℕ → List ℤ

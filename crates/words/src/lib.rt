@@ -2,11 +2,11 @@
 ghost use mathlib.Core.Path.{_≡_};
 ghost use Prim.Native.Nat.{_+_, _^_, _<_, _≤_};
 ghost use lib.IntN.{pos};
-ghost use lib.ListN.{length, replicate};
+ghost use lib.ListN.{length};
 ghost use Rattle.words.specs.Parts.{part, put};
 ghost use Rattle.words.specs.Inner.Parts.{CanCopy};
-ghost use Rattle.words.specs.Layout.{nodeStart, entryOffset, entryStart, nodeLimit, nodeWords, entryWords, fullNode, entryAt, setEntry};
-ghost use Rattle.words.specs.Words.{wordAt, natOf, rowAt, rowsAt, inLine, TwoRows, withCount};
+ghost use Rattle.words.specs.Layout.{nodeStart, entryOffset, nodeLimit, nodeWords, entryWords, fullNode, entryAt, setEntry};
+ghost use Rattle.words.specs.Words.{wordAt, natOf, rowAt, rowsAt, withCount};
 
 // The sizes of specs/Layout.antt, for the code.
 pub const HEADER: usize = 16;
@@ -36,14 +36,6 @@ pub fn entry_offset(k: usize) -> usize
     ensures { λ r. ⌜ r ≡ entryOffset k ⌝ }
 {
     OWN_WORDS + ENTRY_WORDS * k
-}
-
-// The place of the first word of node i's entry k.
-pub fn entry_start(i: usize, k: usize) -> usize
-    requires { ⌜ (i < nodeLimit) × (k < fullNode) ⌝ }
-    ensures { λ r. ⌜ r ≡ entryStart i k ⌝ }
-{
-    node_start(i) + entry_offset(k)
 }
 
 // The word at a place.
@@ -102,24 +94,16 @@ pub fn rows(t: &[i32], at: usize) -> [[i32; 4]; 2]
     }
 }
 
-// Writes a row from a place on. The laws of `put` ask for the row's length: its type has it, and the contract hands it on.
-pub fn put_row(t: &mut [i32], at: usize, r: [i32; 4])
-    requires { ⌜ at + 4 ≤ length (now t) ⌝ }
-    ensures { λ _. ⌜ (now (t .exit) ≡ put (now (t .entry)) at 4 r) × (length r ≡ 4) ⌝ }
+// Writes numbers one after the other from a place on.
+pub fn put_run(t: &mut [i32], at: usize, numbers: &[i32])
+    requires { ⌜ at + length (now numbers) ≤ length (now t) ⌝ }
+    ensures { λ _. ⌜ now (t .exit) ≡ put (now (t .entry)) at (length (now (numbers .entry))) (now (numbers .entry)) ⌝ }
 {
-    t[at] = r[0];
-    t[at + 1] = r[1];
-    t[at + 2] = r[2];
-    t[at + 3] = r[3];
-}
-
-// Writes two rows one after the other from a place on.
-pub fn put_rows(t: &mut [i32], at: usize, b: [[i32; 4]; 2])
-    requires { ⌜ at + 8 ≤ length (now t) ⌝ }
-    ensures { λ _. ⌜ (now (t .exit) ≡ put (now (t .entry)) at 8 (inLine b)) × TwoRows b ⌝ }
-{
-    put_row(t, at, b[0]);
-    put_row(t, at + 4, b[1]);
+    let mut j = 0;
+    while j < numbers.len() {
+        t[at + j] = numbers[j];
+        j += 1;
+    }
 }
 
 // Copies the n words from `from` on to the places from `to` on.
@@ -134,30 +118,15 @@ pub fn copy_within(t: &mut [i32], from: usize, to: usize, n: usize)
     }
 }
 
-// Writes one value to each of the n words from `from` on.
-pub fn fill(t: &mut [i32], from: usize, n: usize, v: i32)
-    requires { ⌜ from + n ≤ length (now t) ⌝ }
-    ensures { λ _. ⌜ now (t .exit) ≡ put (now (t .entry)) from n (replicate n v) ⌝ }
-{
-    let mut j = 0;
-    while j < n {
-        t[from + j] = v;
-        j += 1;
-    }
-}
-
 // The words of a node's entry k.
 pub fn entry(node: &[i32], k: usize) -> Entry
     requires { ⌜ (length (now node) ≡ nodeWords) × (k < fullNode) ⌝ }
     ensures { λ r. ⌜ r ≡ entryAt (now (node .entry)) k ⌝ }
 {
     let a = entry_offset(k);
+    let end = a + ENTRY_WORDS;
     let mut e = [0; 11];
-    let mut j = 0;
-    while j < ENTRY_WORDS {
-        e[j] = node[a + j];
-        j += 1;
-    }
+    put_run(&mut e, 0, &node[a..end]);
     e
 }
 
@@ -166,12 +135,7 @@ pub fn put_entry(node: &mut [i32], k: usize, e: Entry)
     requires { ⌜ (length (now node) ≡ nodeWords) × (k < fullNode) ⌝ }
     ensures { λ _. ⌜ (now (node .exit) ≡ setEntry (now (node .entry)) k e) × (length e ≡ entryWords) ⌝ }
 {
-    let a = entry_offset(k);
-    let mut j = 0;
-    while j < ENTRY_WORDS {
-        node[a + j] = e[j];
-        j += 1;
-    }
+    put_run(node, entry_offset(k), &e);
 }
 
 // Writes the count of a node's entries.

@@ -17,11 +17,13 @@ use Rattle.track.specs.Refusals.{Reason, _when_, First}
 use Rattle.track.specs.Laws.Refusals.{first-fixed}
 use Rattle.track.specs.Report.{keptCell}
 use Rattle.track.specs.declared.cell.Cell.{Cell}
+use Rattle.track.specs.declared.report.Report.{Report}
 use Rattle.track.specs.declared.queries.Query.{Query}
 use Rattle.table.specs.Header.{clock}
 use Rattle.table.specs.Sound.{held, Live, Sound}
 use Rattle.table.specs.Fresh.{IsFresh}
 use Rattle.tree.specs.Steps.{Stays, IsThere, NoRoom, Step, reportRefusals, ReportSteps, dropRefusals, DropSteps}
+use Rattle.tree.specs.Laws.Steps.{report-late, drop-late}
 use Rattle.query.specs.Hits.{Hit, Hits, MoreHits}
 use Rattle.query.specs.Laws.Queried.{hits-fixed}
 use Rattle.alike.specs.Alike.{Alike}
@@ -43,17 +45,21 @@ first-if (k when P ∷ rs) (l when Q ∷ ss) n s (inr h) = inr (λ q. h .0 (s .1
 always : {P : Type 0} → P ↔ P
 always = (λ p. p, λ p. p)
 
+-- why a query of a table is refused, with a list of so many places
+abbrev pub reasonsAt : List ℤ → Type 0 → Query → ℕ → List Reason
+reasonsAt w B q places = 1 when (Sound w → ⊥) ∷ (queryReasons (clock w) B q ++ (10 when (MoreHits w q places) ∷ []))
+
 -- what meets a query lives at its start
-lives-at-start : (c : Cell) (k : Query) → CellMeets c k → LivesAt (k .start .at) c
-lives-at-start c k m =
+lives-at-start : (c : Cell) (q : Query) → CellMeets c q → LivesAt (q .start .at) c
+lives-at-start c q m =
     let t = m .at in
     let through = ≤ℤ-trans (m .in-query .from) (m .in-life .to) in
-    let s = k .start .at in
+    let s = q .start .at in
     let e = c .expiry .at in
     of-gap e s (cancel (t .q) (e -ℤ s) (t .q-positive) (subst (λ (z : ℤ). pos 0 ≤ℤ z) (factored s e (t .q)) (gap-of (e *ℤ t .q) (s *ℤ t .q) through)))
   where
-    factored : (s e q : ℤ) → e *ℤ q -ℤ s *ℤ q ≡ q *ℤ (e -ℤ s)
-    factored s e q = simp ring
+    factored : (s e d : ℤ) → e *ℤ d -ℤ s *ℤ d ≡ d *ℤ (e -ℤ s)
+    factored s e d = simp ring
 
 pub alike-sym : {w v : List ℤ} → Alike w v → Alike v w
 alike-sym a = record {
@@ -87,10 +93,10 @@ module _ {w v : List ℤ} (a : Alike w v) where
     full = r .full ∙ ap natOf (a .capacity-is);
   }
 
-  hit-too : (k : Query) (id : ℤ) → clock w ≤ℤ k .start .at → Hit w k id → Hit v k id
-  hit-too k id late h = record {
+  hit-too : (q : Query) (id : ℤ) → clock w ≤ℤ q .start .at → Hit w q id → Hit v q id
+  hit-too q id late h = record {
     cell = h .cell;
-    is-held = held-too (k .start .at) late (lives-at-start (h .cell) k (h .meets)) (h .is-held);
+    is-held = held-too (q .start .at) late (lives-at-start (h .cell) q (h .meets)) (h .is-held);
     has-id = h .has-id;
     meets = h .meets;
   }
@@ -99,15 +105,15 @@ module _ {w v : List ℤ} (a : Alike w v) where
   late-too : (minute : ℤ) → clock w ≤ℤ minute → clock v ≤ℤ minute
   late-too minute late = rw (← a .clock-is) late
 
-  pub hits-too : {k : Query} {ids : List ℤ} → clock w ≤ℤ k .start .at → Hits w k ids → Hits v k ids
-  hits-too {k} late h = record {
+  pub hits-too : {q : Query} {ids : List ℤ} → clock w ≤ℤ q .start .at → Hits w q ids → Hits v q ids
+  hits-too {q} late h = record {
     rising = h .rising;
-    only = λ id m. hit-too a k id late (h .only id m);
-    all = λ id hit. h .all id (hit-too (alike-sym a) k id (late-too (k .start .at) late) hit);
+    only = λ id m. hit-too a q id late (h .only id m);
+    all = λ id hit. h .all id (hit-too (alike-sym a) q id (late-too (q .start .at) late) hit);
   }
 
-  more-too : (k : Query) (n : ℕ) → clock w ≤ℤ k .start .at → MoreHits w k n → MoreHits v k n
-  more-too k n late m = record { ids = m .ids; hits = hits-too late (m .hits); more = m .more }
+  more-too : (q : Query) (n : ℕ) → clock w ≤ℤ q .start .at → MoreHits w q n → MoreHits v q n
+  more-too q n late m = record { ids = m .ids; hits = hits-too late (m .hits); more = m .more }
 
   sound-alike : (Sound w → ⊥) ↔ (Sound v → ⊥)
   sound-alike = (λ n. absurd (n (a .sound)), λ n. absurd (n (a .sound′)))
@@ -117,32 +123,32 @@ module _ {w v : List ℤ} (a : Alike w v) where
 
 -- ---- the numbers
 module _ {w v : List ℤ} (a : Alike w v) where
-  pub report-number : (id x y vx vy minute expiry : ℤ) (m n : ℕ) → First (reportRefusals w id x y vx vy minute expiry) m → First (reportRefusals v id x y vx vy minute expiry) n → m ≡ n
-  report-number id x y vx vy minute expiry m n p q =
-      first-fixed (reportRefusals v id x y vx vy minute expiry) m n (first-if (reportRefusals w id x y vx vy minute expiry) (reportRefusals v id x y vx vy minute expiry) m same p) q
+  pub report-number : (r : Report) (m n : ℕ) → First (reportRefusals w r) m → First (reportRefusals v r) n → m ≡ n
+  report-number r m n p p′ =
+      first-fixed (reportRefusals v r) m n (first-if (reportRefusals w r) (reportRefusals v r) m same p) p′
     where
-      same : SameIf (reportRefusals w id x y vx vy minute expiry) (reportRefusals v id x y vx vy minute expiry)
+      same : SameIf (reportRefusals w r) (reportRefusals v r)
       same = (
         refl,
         sound-alike a,
         λ s. (
           refl,
           always,
-          λ r. (
+          λ in-range. (
             refl,
-            early-alike a minute,
+            early-alike a (r .minute),
             λ late. (
               refl,
               always,
               λ e.
-                  (refl, (room-too a minute id (not-before late), room-too (alike-sym a) minute id (late-too a minute (not-before late))), λ f. tt),
+                  (refl, (room-too a (r .minute) (r .id) (not-before late), room-too (alike-sym a) (r .minute) (r .id) (late-too a (r .minute) (not-before late))), λ f. tt),
             ),
           ),
         ),
       )
 
   pub drop-number : (id minute : ℤ) (m n : ℕ) → First (dropRefusals w id minute) m → First (dropRefusals v id minute) n → m ≡ n
-  drop-number id minute m n p q = first-fixed (dropRefusals v id minute) m n (first-if (dropRefusals w id minute) (dropRefusals v id minute) m same p) q
+  drop-number id minute m n p p′ = first-fixed (dropRefusals v id minute) m n (first-if (dropRefusals w id minute) (dropRefusals v id minute) m same p) p′
     where
       same : SameIf (dropRefusals w id minute) (dropRefusals v id minute)
       same = (
@@ -160,15 +166,11 @@ module _ {w v : List ℤ} (a : Alike w v) where
         ),
       )
 
-  pub query-number : (B : Type 0) (k : Query) (places m n : ℕ)
-      → First (1 when (Sound w → ⊥) ∷ (queryReasons (clock w) B k ++ (10 when (MoreHits w k places) ∷ []))) m
-      → First (1 when (Sound v → ⊥) ∷ (queryReasons (clock v) B k ++ (10 when (MoreHits v k places) ∷ []))) n → m ≡ n
-  query-number B k places m n p q = first-fixed (tried v) m n (first-if (tried w) (tried v) m same p) q
+  pub query-number : (B : Type 0) (q : Query) (places m n : ℕ)
+      → First (reasonsAt w B q places) m → First (reasonsAt v B q places) n → m ≡ n
+  query-number B q places m n p p′ = first-fixed (reasonsAt v B q places) m n (first-if (reasonsAt w B q places) (reasonsAt v B q places) m same p) p′
     where
-      tried : List ℤ → List Reason
-      tried u = 1 when (Sound u → ⊥) ∷ (queryReasons (clock u) B k ++ (10 when (MoreHits u k places) ∷ []))
-
-      same : SameIf (tried w) (tried v)
+      same : SameIf (reasonsAt w B q places) (reasonsAt v B q places)
       same = (
         refl,
         sound-alike a,
@@ -177,12 +179,12 @@ module _ {w v : List ℤ} (a : Alike w v) where
           always,
           λ r. (
             refl,
-            early-alike a (k .start .at),
+            early-alike a (q .start .at),
             λ late. (
               refl,
               always,
               λ b.
-                  (refl, (more-too a k places (not-before late), more-too (alike-sym a) k places (late-too a (k .start .at) (not-before late))), λ f. tt),
+                  (refl, (more-too a q places (not-before late), more-too (alike-sym a) q places (late-too a (q .start .at) (not-before late))), λ f. tt),
             ),
           ),
         ),
@@ -201,56 +203,46 @@ step-alike a s t same = record {
   live = λ c. (λ l. t .live c (same c .0 (s .holds c (l .is-held))), λ l. s .live c (same c .1 (t .holds c (l .is-held))));
 }
 
-module _ {w v : List ℤ} (a : Alike w v) (id minute : ℤ) where
-  stays-alike : clock w ≤ℤ minute → (c : Cell) → Stays w minute id c ↔ Stays v minute id c
-  stays-alike late c = (stays-too a minute id late, stays-too (alike-sym a) minute id (late-too a minute late))
+stays-alike : {w v : List ℤ} {minute : ℤ} (id : ℤ) → Alike w v → clock w ≤ℤ minute → (c : Cell) → Stays w minute id c ↔ Stays v minute id c
+stays-alike {minute} id a late c = (stays-too a minute id late, stays-too (alike-sym a) minute id (late-too a minute late))
 
-  pub report-alike : {w′ v′ : List ℤ} {x y vx vy expiry : ℤ} {m n : ℕ} → ReportSteps w id x y vx vy minute expiry m w′ → ReportSteps v id x y vx vy minute expiry n v′ → (m ≡ n) × Alike w′ v′
-  report-alike {w′} {v′} {x} {y} {vx} {vy} {expiry} {m} {n} p q = (same, by (ℕ-discrete m 0))
-    where
-      same : m ≡ n
-      same = report-number a id x y vx vy minute expiry m n (p .refusal) (q .refusal)
-
-      late : First (reportRefusals w id x y vx vy minute expiry) m → m ≡ 0 → clock w ≤ℤ minute
-      late (inl h) e = absurd (omega arith)
-      late (inr (s, inl h)) e = absurd (omega arith)
-      late (inr (s, inr (r, inl h))) e = absurd (omega arith)
-      late (inr (s, inr (r, inr (l, h)))) e = not-before l
-
-      by : Dec (m ≡ 0) → Alike w′ v′
-      by (yes e) =
-          let on-time = late (p .refusal) e in
-          step-alike a (p .accepted e) (q .accepted (sym same ∙ e))
-          (λ c. (⊎-elim inl (λ s. inr (stays-alike on-time c .0 s)), ⊎-elim inl (λ s. inr (stays-alike on-time c .1 s))))
-      by (no h) = still-alike a (p .refused h) (q .refused (λ e. h (same ∙ e)))
-
-  pub drop-alike : {w′ v′ : List ℤ} {m n : ℕ} → DropSteps w id minute m w′ → DropSteps v id minute n v′ → (m ≡ n) × Alike w′ v′
-  drop-alike {w′} {v′} {m} {n} p q = (same, by (ℕ-discrete m 0))
-    where
-      same : m ≡ n
-      same = drop-number a id minute m n (p .refusal) (q .refusal)
-
-      late : First (dropRefusals w id minute) m → m ≡ 0 → clock w ≤ℤ minute
-      late (inl h) e = absurd (omega arith)
-      late (inr (s, inl h)) e = absurd (omega arith)
-      late (inr (s, inr (r, inl h))) e = absurd (omega arith)
-      late (inr (s, inr (r, inr (l, h)))) e = not-before l
-
-      by : Dec (m ≡ 0) → Alike w′ v′
-      by (yes e) = step-alike a (p .accepted e) (q .accepted (sym same ∙ e)) (stays-alike (late (p .refusal) e))
-      by (no h) = still-alike a (p .refused h) (q .refused (λ e. h (same ∙ e)))
-
--- an accepted query of both lists the same cells
-pub ids-alike : {w v : List ℤ} {B : Type 0} {k : Query} {places n : ℕ} → Alike w v
-    → First (1 when (Sound w → ⊥) ∷ (queryReasons (clock w) B k ++ (10 when (MoreHits w k places) ∷ []))) n → n ≡ 0
-    → {ids jds : List ℤ} → Hits w k ids → Hits v k jds → ids ≡ jds
-ids-alike {w} {v} {B} {k} {places} {n} a tried accepted h j = hits-fixed (hits-too a (late tried accepted) h) j
+pub report-alike : {w v : List ℤ} {r : Report} {w′ v′ : List ℤ} {m n : ℕ} → Alike w v → ReportSteps w r m w′ → ReportSteps v r n v′ → (m ≡ n) × Alike w′ v′
+report-alike {r} {w′} {v′} {m} {n} a p p′ = (same, by (ℕ-discrete m 0))
   where
-    late : First (1 when (Sound w → ⊥) ∷ (queryReasons (clock w) B k ++ (10 when (MoreHits w k places) ∷ []))) n → n ≡ 0 → clock w ≤ℤ k .start .at
-    late (inl h) e = absurd (omega arith)
-    late (inr (s, inl h)) e = absurd (omega arith)
-    late (inr (s, inr (r, inl h))) e = absurd (omega arith)
-    late (inr (s, inr (r, inr (l, h)))) e = not-before l
+    same : m ≡ n
+    same = report-number a r m n (p .refusal) (p′ .refusal)
+
+    by : Dec (m ≡ 0) → Alike w′ v′
+    by (yes e) =
+        let stays = stays-alike (r .id) a (report-late p e) in
+        step-alike a (p .accepted e) (p′ .accepted (sym same ∙ e)) (λ c. (⊎-elim inl (λ s. inr (stays c .0 s)), ⊎-elim inl (λ s. inr (stays c .1 s))))
+    by (no h) = still-alike a (p .refused h) (p′ .refused (λ e. h (same ∙ e)))
+
+pub drop-alike : {w v : List ℤ} {id minute : ℤ} {w′ v′ : List ℤ} {m n : ℕ} → Alike w v → DropSteps w id minute m w′ → DropSteps v id minute n v′ → (m ≡ n) × Alike w′ v′
+drop-alike {id} {minute} {w′} {v′} {m} {n} a p p′ = (same, by (ℕ-discrete m 0))
+  where
+    same : m ≡ n
+    same = drop-number a id minute m n (p .refusal) (p′ .refusal)
+
+    by : Dec (m ≡ 0) → Alike w′ v′
+    by (yes e) = step-alike a (p .accepted e) (p′ .accepted (sym same ∙ e)) (stays-alike id a (drop-late p e))
+    by (no h) = still-alike a (p .refused h) (p′ .refused (λ e. h (same ∙ e)))
+
+-- a query of both whose number is none of 1, 4 and 5 starts at or after the clock, and so finds the same cells
+pub same-found : {w v : List ℤ} {B : Type 0} {q : Query} {places n : ℕ} → Alike w v → (n ≡ 1 → ⊥) → (n ≡ 4 → ⊥) → (n ≡ 5 → ⊥)
+    → First (reasonsAt w B q places) n → {ids jds : List ℤ} → Hits w q ids → Hits v q jds → ids ≡ jds
+same-found {w} {v} {B} {q} {places} {n} a x y z f h j = hits-fixed (hits-too a (late f) h) j
+  where
+    late : First (reasonsAt w B q places) n → clock w ≤ℤ q .start .at
+    late (inl h) = absurd (x (h .1))
+    late (inr (s, inl h)) = absurd (y (h .1))
+    late (inr (s, inr (r, inl h))) = absurd (z (h .1))
+    late (inr (s, inr (r, inr (l, h)))) = not-before l
+
+-- so an accepted query of both lists the same cells
+pub ids-alike : {w v : List ℤ} {B : Type 0} {q : Query} {places n : ℕ} → Alike w v → First (reasonsAt w B q places) n → n ≡ 0
+    → {ids jds : List ℤ} → Hits w q ids → Hits v q jds → ids ≡ jds
+ids-alike {B} {places} a f e = same-found {B = B} {places = places} a (λ x. omega arith) (λ x. omega arith) (λ x. omega arith) f
 
 -- fresh tables are alike
 pub fresh-alike : {cells : ℤ} {u u′ w v : List ℤ} → IsFresh cells u w → IsFresh cells u′ v → Alike w v
@@ -296,8 +288,10 @@ places-changed other s t s′ t′ = record {
   live = λ c. (one-way other s t s′ t′ c, one-way (λ e. other (sym e)) s′ t′ s t c);
 }
 
-pub reports-change-places : {w u v u′ v′ : List ℤ} {minute i x y vx vy expiry j x′ y′ vx′ vy′ expiry′ : ℤ} → (i ≡ j → ⊥)
-    → ReportSteps w i x y vx vy minute expiry 0 u → ReportSteps u j x′ y′ vx′ vy′ minute expiry′ 0 v
-    → ReportSteps w j x′ y′ vx′ vy′ minute expiry′ 0 u′ → ReportSteps u′ i x y vx vy minute expiry 0 v′ → Alike v v′
-reports-change-places {minute} {i} {x} {y} {vx} {vy} {expiry} {j} {x′} {y′} {vx′} {vy′} {expiry′} other p q p′ q′ =
-    places-changed {k = keptCell i x y vx vy minute expiry} {l = keptCell j x′ y′ vx′ vy′ minute expiry′} other (p .accepted refl) (q .accepted refl) (p′ .accepted refl) (q′ .accepted refl)
+pub reports-change-places : {w u v u′ v′ : List ℤ} {r s : Report} → (r .id ≡ s .id → ⊥) → r .minute ≡ s .minute
+    → ReportSteps w r 0 u → ReportSteps u s 0 v → ReportSteps w s 0 u′ → ReportSteps u′ r 0 v′ → Alike v v′
+reports-change-places {r} {s} other e p q p′ q′ =
+    places-changed {k = keptCell r} {l = keptCell s} other (p .accepted refl) (at-minute q) (at-minute p′) (q′ .accepted refl)
+  where
+    at-minute : {w u : List ℤ} → ReportSteps w s 0 u → Step w u (r .minute) (LeftWith w (r .minute) (keptCell s))
+    at-minute {w} {u} steps = subst (λ (minute : ℤ). Step w u minute (LeftWith w minute (keptCell s))) (sym e) (steps .accepted refl)

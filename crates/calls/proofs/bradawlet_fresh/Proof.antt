@@ -9,30 +9,12 @@ use Rattle.calls.proofs.bradawlet_fresh.Tie as tie
 makes : (c : tie.After-fresh) → let a = c .before .before .args in MakesFresh (a .cells) (a .table .now) (madeNumber (c .fresh .result)) (c .fresh .last .0)
 makes c = simp (back (c .before .before .fits .cells)) at (c .fresh .ensures)
 
-fresh-requires : tie.Need-fresh-requires
-fresh-requires c κs = search needs
-
-enum-told : tie.Need-enum-told
-enum-told c = search needs
-
-enum-known-why : tie.Need-enum-known-why
-enum-known-why c = search needs
-
-number-requires : tie.Need-number-requires
-number-requires c κs = search needs
-
-same-length : tie.Need-same-length
-same-length c = search needs
-
 returns : tie.Need-returns
 returns c = record {
   number = madeNumber (c .before .before .before .fresh .result);
   is = ap (λ m. pos (madeNumber m)) (sym (c .enum-told .given .1));
   makes = makes (c .before .before .before);
 }
-
-same-length-2 : tie.Need-same-length-2
-same-length-2 c = search needs
 
 returns-2 : tie.Need-returns-2
 returns-2 c = record {
@@ -45,11 +27,11 @@ pub bradawlet-fresh-spec : {M : Type 1} → statement M
 bradawlet-fresh-spec =
     tie.close
     (tie.spec
-    fresh-requires
-    enum-told
-    enum-known-why
-    number-requires
-    same-length
+    (λ c κs. search needs)
+    (λ c. search needs)
+    (λ c. search needs)
+    (λ c κs. search needs)
+    (λ c. search needs)
     returns
-    same-length-2
+    (λ c. search needs)
     returns-2)

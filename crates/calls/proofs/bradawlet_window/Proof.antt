@@ -1,31 +1,26 @@
-use lib.Signed.{_<ℤ_}
+use mathlib.Core.Path.{_≡_}
 use borrow.Author.Needs.{needs}
 use Rattle.whole.specs.Laws.Within.{back, word-back}
 use Rattle.track.specs.Query.{windowFrom}
-use Rattle.query.specs.Queried.{Queried}
 use Rattle.query.specs.Laws.Few.{answer-few}
 use Rattle.calls.proofs.bradawlet_window.Statement.{statement}
 use Rattle.calls.proofs.bradawlet_window.Tie as tie
 
-queried : (c : tie.After-window) → let a = c .before .before .args in
-    Queried (a .table .now) (a .end <ℤ a .start) (windowFrom (a .start) (a .end) (a .xlow) (a .xhigh) (a .ylow) (a .yhigh)) (a .list .now) (c .window .result) (c .window .last .1 .0)
-queried c = let f = c .before .before .fits in simp (back, f .start, f .end, f .xlow, f .xhigh, f .ylow, f .yhigh) at (c .window .ensures)
-
-window-requires : tie.Need-window-requires
-window-requires c κs = search needs
+-- the query, in the arguments' names
+query-is : (c : tie.After-window-from) → let a = c .before .args in c .window-from .result ≡ windowFrom (a .start) (a .end) (a .xlow) (a .xhigh) (a .ylow) (a .yhigh)
+query-is c = let f = c .before .fits in simp (back, f .start, f .end, f .xlow, f .xhigh, f .ylow, f .yhigh) at (c .window-from .ensures)
 
 in-numbers-requires : tie.Need-in-numbers-requires
-in-numbers-requires c κs = answer-few (queried (c .before .before .before))
-
-same-length : tie.Need-same-length
-same-length c = search needs
+in-numbers-requires c κs = answer-few (c .before .before .before .window .ensures)
 
 returns : tie.Need-returns
-returns c = record {
-  answer = c .before .before .before .before .window .result;
-  queried = queried (c .before .before .before .before);
-  in-numbers = rw (word-back (c .in-numbers .result) (c .in-numbers .ok)) (c .in-numbers .ensures);
-}
+returns c =
+    let asked = c .before .before .before .before in
+    record {
+      answer = asked .window .result;
+      queried = rw (query-is (asked .before .before)) at (asked .window .ensures);
+      in-numbers = rw (word-back (c .in-numbers .result) (c .in-numbers .ok)) (c .in-numbers .ensures);
+    }
 
 pub bradawlet-window-spec : {M : Type 1} → statement M
-bradawlet-window-spec = tie.close (tie.spec window-requires in-numbers-requires same-length returns)
+bradawlet-window-spec = tie.close (tie.spec (λ c κs. search needs) (λ c κs. search needs) in-numbers-requires (λ c. search needs) returns)

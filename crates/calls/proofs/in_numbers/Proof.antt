@@ -6,9 +6,6 @@ use Rattle.query.specs.Inner.Few.{Few}
 use Rattle.calls.proofs.in_numbers.Statement.{statement}
 use Rattle.calls.proofs.in_numbers.Tie as tie
 
-enum-known-answer : tie.Need-enum-known-answer
-enum-known-answer c = search needs
-
 number-requires : tie.Need-number-requires
 number-requires c κs =
     let few = subst Few (c .before .answer .given .1) (c .before .before .before .pre) in
@@ -19,19 +16,10 @@ number-requires-2 c κs =
     let few = subst Few (c .before .before .answer .given .1) (c .before .before .before .before .pre) in
     omega (arith, few .few-opened)
 
-enum-known-answer-2 : tie.Need-enum-known-answer-2
-enum-known-answer-2 c = search needs
-
 number-requires-3 : tie.Need-number-requires-3
 number-requires-3 c κs =
     let few = subst Few (c .before .answer2 .given .1) (c .before .before .before .pre) in
     omega (arith, few .few-hits)
-
-enum-known-answer-3 : tie.Need-enum-known-answer-3
-enum-known-answer-3 c = search needs
-
-number-requires-4 : tie.Need-number-requires-4
-number-requires-4 c κs = search needs
 
 returns : tie.Need-returns
 returns c =
@@ -56,13 +44,13 @@ pub in-numbers-spec : {M : Type 1} → statement M
 in-numbers-spec =
     tie.close
     (tie.spec
-    enum-known-answer
+    (λ c. search needs)
     number-requires
     number-requires-2
-    enum-known-answer-2
+    (λ c. search needs)
     number-requires-3
-    enum-known-answer-3
-    number-requires-4
+    (λ c. search needs)
+    (λ c κs. search needs)
     returns
     returns-2
     returns-3)

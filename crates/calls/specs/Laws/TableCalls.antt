@@ -13,8 +13,8 @@ pub fresh-number-fixed : {cells : ℤ} {w : List ℤ} {r s : ℤ} {v u : List �
 fresh-number-fixed {cells} {w} f g =
     f .is ∙ ap pos (first-fixed (freshReasons cells w) (f .number) (g .number) (f .makes .refusal) (g .makes .refusal)) ∙ sym (g .is)
 
-pub query-gives-fixed : {w : List ℤ} {Backward : Type 0} {k : Query} {list : List ℤ} {r hits opened : ℤ} {list′ : List ℤ} {s hits₂ opened₂ : ℤ} {list″ : List ℤ}
-    → QueryGives w Backward k list r hits opened list′ → QueryGives w Backward k list s hits₂ opened₂ list″ → (r ≡ s) × (hits ≡ hits₂) × (opened ≡ opened₂) × (list′ ≡ list″)
+pub query-gives-fixed : {w : List ℤ} {Backward : Type 0} {q : Query} {list : List ℤ} {r hits opened : ℤ} {list′ : List ℤ} {s hits₂ opened₂ : ℤ} {list″ : List ℤ}
+    → QueryGives w Backward q list r hits opened list′ → QueryGives w Backward q list s hits₂ opened₂ list″ → (r ≡ s) × (hits ≡ hits₂) × (opened ≡ opened₂) × (list′ ≡ list″)
 query-gives-fixed f g =
     let same = queried-fixed (f .queried) (g .queried) in
     let m = f .in-numbers in

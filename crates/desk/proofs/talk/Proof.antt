@@ -54,15 +54,6 @@ loop-holds c =
     let s = c .before .before .before in
     (refl, refl, refl, refl, omega arith, s .pre .held-in, heard-none (s .args .t .now) (s .args .line .now) (s .args .held .now))
 
-sub-serve : tie.Need-sub-serve Inv-loop μ-loop
-sub-serve c = search needs
-
-part-serve-start : tie.Need-part-serve-start Inv-loop μ-loop
-part-serve-start c = search needs
-
-part-serve-end : tie.Need-part-serve-end Inv-loop μ-loop
-part-serve-end c = search needs
-
 serve-requires : tie.Need-serve-requires Inv-loop μ-loop
 serve-requires c κs =
     let at = c .before .before .before .before .before .before .before in
@@ -85,9 +76,6 @@ slice-aggregate-say : tie.Need-slice-aggregate-say Inv-loop μ-loop
 slice-aggregate-say c =
     let call = served (c .before) .serve in
     sym (length-take-le (call .result .place .written) (call .last .1 .1 .1 .1 .1 .0) (call .ensures .written-in))
-
-say-requires : tie.Need-say-requires Inv-loop μ-loop
-say-requires c κs = search needs
 
 same-length : tie.Need-same-length Inv-loop μ-loop
 same-length c = longs (served (c .before .before .before)) .0
@@ -145,14 +133,14 @@ talk-spec =
     Inv-loop
     μ-loop
     loop-holds
-    sub-serve
-    part-serve-start
-    part-serve-end
+    (λ c. search needs)
+    (λ c. search needs)
+    (λ c. search needs)
     serve-requires
     add-from
     slice-reshare-prefix-say
     slice-aggregate-say
-    say-requires
+    (λ c κs. search needs)
     same-length
     same-length-2
     same-length-3

@@ -13,35 +13,11 @@ use Rattle.desk.proofs.turn.Tie as tie
 got-is : (s : tie.Start) → toZ w64 (ofZ w64 (s .args .got)) ≡ s .args .got
 got-is s = back (s .fits .got)
 
-slice-aggregate-write-all : tie.Need-slice-aggregate-write-all
-slice-aggregate-write-all c = search needs
-
-write-all-requires : tie.Need-write-all-requires
-write-all-requires c κs = search needs
-
 returns : tie.Need-returns
 returns c =
     let then = c .before .before in
     let s = then .before .before .before .before in
     turned-failed (ltZ-true (simp got-is at (then .if1 .taken))) (s .pre .held-in)
-
-count-requires : tie.Need-count-requires
-count-requires c κs = search needs
-
-finish-requires : tie.Need-finish-requires
-finish-requires c κs = search needs
-
-same-length : tie.Need-same-length
-same-length c = search needs
-
-same-length-2 : tie.Need-same-length-2
-same-length-2 c = search needs
-
-same-length-3 : tie.Need-same-length-3
-same-length-3 c = search needs
-
-same-length-4 : tie.Need-same-length-4
-same-length-4 c = search needs
 
 -- the read did not fail
 not-below : (c : tie.After-count) → pos 0 ≤ℤ c .before .before .before .before .before .args .got
@@ -55,24 +31,6 @@ returns-2 c =
     let s = counted .before .before .before .before .before in
     turned-ended (s .args .got) (not-below counted) (rw (got-is s) at (counted .count .ensures .1)) (none .if2 .taken) (s .pre .held-in) (call .finish .ensures)
 
-slice-aggregate-talk : tie.Need-slice-aggregate-talk
-slice-aggregate-talk c = search needs
-
-talk-requires : tie.Need-talk-requires
-talk-requires c κs = search needs
-
-same-length-5 : tie.Need-same-length-5
-same-length-5 c = search needs
-
-same-length-6 : tie.Need-same-length-6
-same-length-6 c = search needs
-
-same-length-7 : tie.Need-same-length-7
-same-length-7 c = search needs
-
-same-length-8 : tie.Need-same-length-8
-same-length-8 c = search needs
-
 returns-3 : tie.Need-returns-3
 returns-3 c =
     let call = c .before .before .before .before .before .before in
@@ -85,20 +43,20 @@ pub turn-spec : {M : Type 1} → statement M
 turn-spec =
     tie.close
     (tie.spec
-    slice-aggregate-write-all
-    write-all-requires
+    (λ c. search needs)
+    (λ c κs. search needs)
     returns
-    count-requires
-    finish-requires
-    same-length
-    same-length-2
-    same-length-3
-    same-length-4
+    (λ c κs. search needs)
+    (λ c κs. search needs)
+    (λ c. search needs)
+    (λ c. search needs)
+    (λ c. search needs)
+    (λ c. search needs)
     returns-2
-    slice-aggregate-talk
-    talk-requires
-    same-length-5
-    same-length-6
-    same-length-7
-    same-length-8
+    (λ c. search needs)
+    (λ c κs. search needs)
+    (λ c. search needs)
+    (λ c. search needs)
+    (λ c. search needs)
+    (λ c. search needs)
     returns-3)

@@ -6,7 +6,7 @@ use native.Mathlib.Omega.{arith}
 use lib.IntN.{ℤ}
 use lib.ListN.{length, take, drop, length-drop}
 use lib.Seq.{take-all, take-add}
-use Rattle.desk_feed.specs.Laws.Lines.{parted-rest}
+use Rattle.desk_lines.specs.Laws.Lines.{cut-rest}
 use Rattle.desk_serve.specs.Answered.{no-line}
 use Rattle.desk_serve.specs.Served.{Serves}
 use Rattle.desk_serve.specs.Laws.Serving.{heard-then}
@@ -14,13 +14,13 @@ use Rattle.desk.specs.Talked.{HearsAll}
 
 pub heard-none : (w : List ℤ) (buffer : List ℕ) (held : ℕ) → HearsAll w buffer held [] w buffer held
 heard-none w buffer held = λ begun clean h.
-    ([], record { lines = []; rest = begun; parted = rw append-nil (parted-rest clean); session = no-line; holds = h })
+    ([], record { lines = []; rest = begun; cut = rw append-nil (cut-rest clean); session = no-line; holds = h })
 
 pub hears-then : {w t v : List ℤ} {buffer buffer′ buffer″ : List ℕ} {held held′ held″ : ℕ} {p q : List ℕ} → HearsAll w buffer held p t buffer′ held′ → HearsAll t buffer′ held′ q v buffer″ held″
     → HearsAll w buffer held (p ++ q) v buffer″ held″
 hears-then first second = λ begun clean h.
     let before = first begun clean h in
-    let after = second (before .1 .rest) (before .1 .parted .clean-rest) (before .1 .holds) in
+    let after = second (before .1 .rest) (before .1 .cut .clean-rest) (before .1 .holds) in
     (before .0 ++ after .0, heard-then (before .1) (after .1))
 
 -- one call of serve more

@@ -1,15 +1,16 @@
 use Prim.Native.Nat.{_+_, _*_, _-_, _≤_}
 use native.Mathlib.Omega.{arith}
 use lib.ListN.{length, take, set, length-set}
-use Rattle.desk_answers.specs.Decimal.{Listed, none}
-use Rattle.desk_answers.specs.Inner.Putting.{Put}
-use Rattle.desk_answers.specs.Laws.Putting.{put-nothing, put-long, room-ten, ends-by-ten, list-next, list-all}
+use Rattle.desk_answers.specs.AnswerLines.{Spaced, none}
+use Rattle.decimal.specs.Inner.PutBytes.{Put}
+use Rattle.decimal.specs.Laws.PutBytes.{put-nothing, put-long, room-ten, ends-by-ten}
+use Rattle.desk_answers.specs.Laws.PutLines.{list-next, list-all}
 use borrow.Author.Needs.{needs}
 use Rattle.desk_answers.proofs.put_list.Statement.{statement}
 use Rattle.desk_answers.proofs.put_list.Tie as tie
 
 abbrev Inv-loop : tie.InvT-loop
-Inv-loop out₀ at list count end₀ k₀ out end k = (k ≤ count) × (end ≤ at + 11 * k) × Put (Listed (take k list)) out₀ at out end
+Inv-loop out₀ at list count end₀ k₀ out end k = (k ≤ count) × (end ≤ at + 11 * k) × Put (Spaced (take k list)) out₀ at out end
 
 abbrev μ-loop : tie.MeasureT-loop
 μ-loop out₀ at list count end₀ k₀ out end k = count - k
@@ -23,20 +24,11 @@ slice-write-out c = omega (arith, put-long (c .before .loop .inv .2))
 add-put-decimal : tie.Need-add-put-decimal Inv-loop μ-loop
 add-put-decimal c = omega (arith, put-long (c .before .before .loop .inv .2))
 
-place-at-requires : tie.Need-place-at-requires Inv-loop μ-loop
-place-at-requires c κs = search needs
-
 put-decimal-requires : tie.Need-put-decimal-requires Inv-loop μ-loop
 put-decimal-requires c κs =
     let at = c .before .before .before in
     let long = length-set (at .loop .out) (at .loop .end) 32 in
     room-ten (at .loop .end + 1) (length (set (at .loop .out) (at .loop .end) 32)) (c .place-at .ensures .1) (omega (arith, long, put-long (at .loop .inv .2)))
-
-add-k : tie.Need-add-k Inv-loop μ-loop
-add-k c = search needs
-
-loop-less : tie.Need-loop-less Inv-loop μ-loop
-loop-less c = search needs
 
 loop-again : tie.Need-loop-again Inv-loop μ-loop
 loop-again c =
@@ -67,10 +59,10 @@ put-list-spec =
     loop-holds
     slice-write-out
     add-put-decimal
-    place-at-requires
+    (λ c κs. search needs)
     put-decimal-requires
-    add-k
-    loop-less
+    (λ c. search needs)
+    (λ c. search needs)
     loop-again
     same-length
     returns)

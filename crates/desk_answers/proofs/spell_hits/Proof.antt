@@ -3,33 +3,22 @@ use Prim.Native.Nat.{_+_, _*_, _≤_}
 use native.Mathlib.Omega.{arith}
 use lib.ListN.{length}
 use lib.Seq.{length-take-le}
-use Rattle.desk_answers.specs.Laws.Putting.{put-long, room-ten, ends-by-ten, spelt-whole, spelt-not}
-use Rattle.desk_answers.specs.Laws.AnswerLines.{word-end, hits-line}
+use Rattle.decimal.specs.Laws.PutBytes.{put-long, room-ten, ends-by-ten, word-end}
+use Rattle.desk_answers.specs.Laws.PutLines.{spelt-whole, spelt-not}
+use Rattle.desk_answers.specs.Laws.AnswerLines.{hits-line}
 use borrow.Author.Needs.{needs}
 use Rattle.desk_answers.proofs.spell_hits.Statement.{statement}
 use Rattle.desk_answers.proofs.spell_hits.Tie as tie
 
-mul-if1 : tie.Need-mul-if1
-mul-if1 c = search needs
-
-add-if1 : tie.Need-add-if1
-add-if1 c = search needs
-
 returns : tie.Need-returns
 returns c = let s = c .before .before in spelt-not (16 + 11 * s .args .hits) (c .if1 .taken)
-
-slice-aggregate-put-word : tie.Need-slice-aggregate-put-word
-slice-aggregate-put-word c = search needs
-
-put-word-requires : tie.Need-put-word-requires
-put-word-requires c κs = search needs
 
 put-decimal-requires : tie.Need-put-decimal-requires
 put-decimal-requires c κs =
     let word = c .before .before .before in
     let s = word .before .before .before .before .before in
-    let p = word .put-word .ensures in
-    room-ten (word .put-word .result) (length (word .put-word .last .0)) (s .pre .1) (omega (arith, word-end p, put-long p))
+    let p = word .put-text .ensures in
+    room-ten (word .put-text .result) (length (word .put-text .last .0)) (s .pre .1) (omega (arith, word-end p, put-long p))
 
 -- what is left after the count holds the list and the line feed
 room-for-list : (c : tie.After-put-decimal) → let s = c .before .before .before .before .before .before .before .before .before in
@@ -37,24 +26,18 @@ room-for-list : (c : tie.After-put-decimal) → let s = c .before .before .befor
 room-for-list c =
     let word = c .before .before .before .before in
     let s = word .before .before .before .before .before in
-    let p = word .put-word .ensures in
+    let p = word .put-text .ensures in
     let q = c .put-decimal .ensures in
     omega (arith, word-end p, put-long p, put-long q, ends-by-ten (s .pre .1) q)
 
 put-list-requires : tie.Need-put-list-requires
 put-list-requires c κs = (search needs, omega (arith, room-for-list (c .before .before .before)))
 
-slice-aggregate-put-word-2 : tie.Need-slice-aggregate-put-word-2
-slice-aggregate-put-word-2 c = search needs
-
-put-word-requires-2 : tie.Need-put-word-requires-2
-put-word-requires-2 c κs =
+put-text-requires-2 : tie.Need-put-text-requires-2
+put-text-requires-2 c κs =
     let list = c .before .before .before .before in
     let fields = list .before .before .before .before in
     omega (arith, room-for-list fields, list .put-list .ensures .1, put-long (list .put-list .ensures .0))
-
-same-length : tie.Need-same-length
-same-length c = search needs
 
 returns-2 : tie.Need-returns-2
 returns-2 c =
@@ -65,20 +48,20 @@ returns-2 c =
     let enough = word .before .before .before in
     let s = enough .before .before in
     spelt-whole (16 + 11 * s .args .hits) (enough .if1 .left)
-    (hits-line (sym (length-take-le (s .args .hits) (s .args .list .now) (s .pre .0))) (word .put-word .ensures) (count .put-decimal .ensures) (list .put-list .ensures .0) (feed .put-word2 .ensures))
+    (hits-line (sym (length-take-le (s .args .hits) (s .args .list .now) (s .pre .0))) (word .put-text .ensures) (count .put-decimal .ensures) (list .put-list .ensures .0) (feed .put-text2 .ensures))
 
 pub spell-hits-spec : {M : Type 1} → statement M
 spell-hits-spec =
     tie.close
     (tie.spec
-    mul-if1
-    add-if1
+    (λ c. search needs)
+    (λ c. search needs)
     returns
-    slice-aggregate-put-word
-    put-word-requires
+    (λ c. search needs)
+    (λ c κs. search needs)
     put-decimal-requires
     put-list-requires
-    slice-aggregate-put-word-2
-    put-word-requires-2
-    same-length
+    (λ c. search needs)
+    put-text-requires-2
+    (λ c. search needs)
     returns-2)

@@ -1,84 +1,68 @@
-use Rattle.whole.specs.Laws.Tells.{passed, failed}
-use Rattle.desk_lines.specs.Laws.Forms.{no-word}
+use mathlib.Core.Path.{refl}
+use Rattle.desk_lines.specs.Forms.{cell, drop as dropped, when, move}
+use Rattle.desk_lines.specs.Laws.Forms.{reads-form, reads-bad, form-there, form-missing}
 use borrow.Author.Needs.{needs}
 use Rattle.desk_lines.proofs.read.Statement.{statement}
 use Rattle.desk_lines.proofs.read.Tie as tie
 
-slice-aggregate-starts : tie.Need-slice-aggregate-starts
-slice-aggregate-starts c = search needs
-
-starts-requires : tie.Need-starts-requires
-starts-requires c κs = search needs
-
-read-cell-requires : tie.Need-read-cell-requires
-read-cell-requires c κs = passed (c .before .starts .ensures) (c .if1 .taken)
-
 returns : tie.Need-returns
-returns c = search needs
-
-slice-aggregate-starts-2 : tie.Need-slice-aggregate-starts-2
-slice-aggregate-starts-2 c = search needs
-
-starts-requires-2 : tie.Need-starts-requires-2
-starts-requires-2 c κs = search needs
-
-read-drop-requires : tie.Need-read-drop-requires
-read-drop-requires c κs = passed (c .before .starts2 .ensures) (c .if2 .taken)
+returns c =
+    let found = c .before in
+    let call = found .before .before in
+    rw (c .report-of .ensures) (reads-form _ (cell (form-there 7 (call .is-form .ensures) refl (found .if1 .taken))))
 
 returns-2 : tie.Need-returns-2
-returns-2 c = search needs
-
-slice-aggregate-starts-3 : tie.Need-slice-aggregate-starts-3
-slice-aggregate-starts-3 c = search needs
-
-starts-requires-3 : tie.Need-starts-requires-3
-starts-requires-3 c κs = search needs
-
-read-when-requires : tie.Need-read-when-requires
-read-when-requires c κs = passed (c .before .starts3 .ensures) (c .if3 .taken)
+returns-2 c =
+    let found = c .before in
+    let call = found .before .before in
+    rw (c .drop-of .ensures) (reads-form _ (dropped (form-there 2 (call .is-form2 .ensures) refl (found .if2 .taken))))
 
 returns-3 : tie.Need-returns-3
-returns-3 c = search needs
-
-slice-aggregate-starts-4 : tie.Need-slice-aggregate-starts-4
-slice-aggregate-starts-4 c = search needs
-
-starts-requires-4 : tie.Need-starts-requires-4
-starts-requires-4 c κs = search needs
-
-read-move-requires : tie.Need-read-move-requires
-read-move-requires c κs = passed (c .before .starts4 .ensures) (c .if4 .taken)
+returns-3 c =
+    let found = c .before in
+    let call = found .before .before in
+    rw (c .window-of .ensures) (reads-form _ (when (form-there 6 (call .is-form3 .ensures) refl (found .if3 .taken))))
 
 returns-4 : tie.Need-returns-4
-returns-4 c = search needs
+returns-4 c =
+    let found = c .before in
+    let call = found .before .before in
+    rw (c .moving-of .ensures) (reads-form _ (move (form-there 10 (call .is-form4 .ensures) refl (found .if4 .taken))))
 
 returns-5 : tie.Need-returns-5
 returns-5 c =
-    let no-when = c .before .before .before in
-    let no-drop = no-when .before .before .before in
-    let no-cell = no-drop .before .before .before in
-    let s = no-cell .before .before .before .before in
-    no-word (s .args .line .now) (failed (no-cell .before .starts .ensures) (no-cell .if1 .left)) (failed (no-drop .before .starts2 .ensures) (no-drop .if2 .left))
-    (failed (no-when .before .starts3 .ensures) (no-when .if3 .left)) (failed (c .before .starts4 .ensures) (c .if4 .left))
+    let no-when = c .before .before .before .before .before in
+    let no-drop = no-when .before .before .before .before .before in
+    let no-cell = no-drop .before .before .before .before .before in
+    let line = no-cell .before .before .before .before .before .before .args .line .now in
+    reads-bad line
+    (form-missing 7 (no-cell .before .before .is-form .ensures) refl (no-cell .if1 .left))
+    (form-missing 2 (no-drop .before .before .is-form2 .ensures) refl (no-drop .if2 .left))
+    (form-missing 6 (no-when .before .before .is-form3 .ensures) refl (no-when .if3 .left))
+    (form-missing 10 (c .before .before .is-form4 .ensures) refl (c .if4 .left))
 
 pub read-spec : {M : Type 1} → statement M
 read-spec =
     tie.close
     (tie.spec
-    slice-aggregate-starts
-    starts-requires
-    read-cell-requires
+    (λ c. search needs)
+    (λ c. search needs)
+    (λ c κs. search needs)
+    (λ c κs. search needs)
     returns
-    slice-aggregate-starts-2
-    starts-requires-2
-    read-drop-requires
+    (λ c. search needs)
+    (λ c. search needs)
+    (λ c κs. search needs)
+    (λ c κs. search needs)
     returns-2
-    slice-aggregate-starts-3
-    starts-requires-3
-    read-when-requires
+    (λ c. search needs)
+    (λ c. search needs)
+    (λ c κs. search needs)
+    (λ c κs. search needs)
     returns-3
-    slice-aggregate-starts-4
-    starts-requires-4
-    read-move-requires
+    (λ c. search needs)
+    (λ c. search needs)
+    (λ c κs. search needs)
+    (λ c κs. search needs)
     returns-4
     returns-5)

@@ -10,9 +10,9 @@ use lib.IntN.{ℤ, pos}
 use lib.ListN.{length, getD, take, drop, set, length-set, length-append, length-drop, List·getD-append, drop-of-length-le}
 use lib.Seq.{drop-cons, take-suc, take-suc-set, take-all}
 use Rattle.desk_lines.specs.Forms.{Fields, no-field}
-use Rattle.desk_lines.specs.Laws.Spells.{fields-nil}
+use Rattle.desk_lines.specs.Laws.Fields.{fields-nil}
 use Rattle.desk_lines.specs.Inner.FieldsRead.{FieldAt, FieldRead, FieldsRead}
-use Rattle.desk_lines.specs.declared.number.Found.the-variants.{Bad}
+use Rattle.decimal.specs.declared.reading.NumberFound.the-variants.{Bad}
 
 -- ---- a word
 module _ (line word : List ℕ) where
@@ -59,8 +59,8 @@ module _ {line : List ℕ} {from : ℕ} {before out : List ℤ} {at k : ℕ} (p 
       let below : k < length zs = omega arith in
       rw (drop-cons zs k (pos 0) below, ← add-one) at (p .only zs e f)
 
-  pub passed-next : {z : ℤ} {next : ℕ} → k < length before → FieldAt line at z next → FieldsPassed line from before (set out k z) next (k + 1)
-  passed-next {z} h f = record {
+  pub fields-passed-next : {z : ℤ} {next : ℕ} → k < length before → FieldAt line at z next → FieldsPassed line from before (set out k z) next (k + 1)
+  fields-passed-next {z} h f = record {
     upto = omega arith;
     long = length-set out k z ∙ p .long;
     inside = f .inside;
@@ -70,15 +70,15 @@ module _ {line : List ℕ} {from : ℕ} {before out : List ℤ} {at k : ℕ} (p 
     only = λ zs e g. f .only (getD zs k (pos 0)) (drop (k + 1) zs) (left h zs e g);
   }
 
-  pub passed-bad : k < length before → FieldRead line at Bad → FieldsRead (drop from line) before out false
-  passed-bad h none = record {
+  pub fields-passed-bad : k < length before → FieldRead line at Bad → FieldsRead (drop from line) before out false
+  fields-passed-bad h none = record {
     long = p .long;
     found = λ t. absurd t;
     seen = λ zs e f. absurd (none (getD zs k (pos 0)) (drop (k + 1) zs) (left h zs e f));
   }
 
-  pub passed-all : (r : Bool) → length before ≤ k → (T r → length line ≤ at) → (length line ≤ at → T r) → FieldsRead (drop from line) before out r
-  passed-all r h sure seen = record {
+  pub fields-passed-all : (r : Bool) → length before ≤ k → (T r → length line ≤ at) → (length line ≤ at → T r) → FieldsRead (drop from line) before out r
+  fields-passed-all r h sure seen = record {
     long = p .long;
     found = λ t.
         let end : drop at line ≡ [] = drop-of-length-le line (sure t) in

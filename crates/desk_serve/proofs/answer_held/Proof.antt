@@ -7,12 +7,6 @@ use borrow.Author.Needs.{needs}
 use Rattle.desk_serve.proofs.answer_held.Statement.{statement}
 use Rattle.desk_serve.proofs.answer_held.Tie as tie
 
-spell-bad-requires : tie.Need-spell-bad-requires
-spell-bad-requires c κs = search needs
-
-same-length : tie.Need-same-length
-same-length c = search needs
-
 returns : tie.Need-returns
 returns c =
     let told = c .before .before in
@@ -20,42 +14,33 @@ returns c =
     let s = over .before .before .before in
     λ line h. written-as (λ answer a. rw a (too-long (s .pre .line-room) h (s .args .t .now) (over .if1 .taken))) (told .spell-bad .ensures .written (omega (arith, s .pre .answer-room)))
 
-slice-aggregate-answer : tie.Need-slice-aggregate-answer
-slice-aggregate-answer c =
+slice-aggregate-answer-line : tie.Need-slice-aggregate-answer-line
+slice-aggregate-answer-line c =
     let s = c .before .before .before .before .before .before in
     sym (length-take-le (s .args .held) (s .args .buffer .now) (omega (arith, s .pre .line-room)))
 
-answer-requires : tie.Need-answer-requires
-answer-requires c κs =
+answer-line-requires : tie.Need-answer-line-requires
+answer-line-requires c κs =
     let s = c .before .before .before .before .before .before .before in
     (s .pre .places, omega (arith, length-take-le (s .args .held) (s .args .buffer .now) (omega (arith, s .pre .line-room))), s .pre .answer-room)
-
-same-length-2 : tie.Need-same-length-2
-same-length-2 c = search needs
-
-same-length-3 : tie.Need-same-length-3
-same-length-3 c = search needs
-
-same-length-4 : tie.Need-same-length-4
-same-length-4 c = search needs
 
 returns-2 : tie.Need-returns-2
 returns-2 c =
     let told = c .before .before .before .before in
     let few = told .before .before .before .before .before in
     let s = few .before .before .before in
-    λ line h. rw (whole-line (s .pre .line-room) h (few .if1 .left)) at (told .answer .ensures)
+    λ line h. rw (whole-line (s .pre .line-room) h (few .if1 .left)) at (told .answer-line .ensures)
 
 pub answer-held-spec : {M : Type 1} → statement M
 answer-held-spec =
     tie.close
     (tie.spec
-    spell-bad-requires
-    same-length
+    (λ c κs. search needs)
+    (λ c. search needs)
     returns
-    slice-aggregate-answer
-    answer-requires
-    same-length-2
-    same-length-3
-    same-length-4
+    slice-aggregate-answer-line
+    answer-line-requires
+    (λ c. search needs)
+    (λ c. search needs)
+    (λ c. search needs)
     returns-2)

@@ -4,14 +4,14 @@ use mathlib.Core.List.{List, [], _∷_, _++_}
 use Prim.Native.Nat.{ℕ, _≤_}
 use lib.IntN.{ℤ}
 use lib.ListN.{length, take, drop}
-use Rattle.desk_feed.specs.Held.{Held}
-use Rattle.desk_answers.specs.Answers.{LineWritten}
+use Rattle.desk_lines.specs.LineHeld.{LineHeld}
+use Rattle.desk_answers.specs.AnswerLines.{LineWritten}
 use Rattle.desk_serve.specs.Answered.{Answered}
 use Rattle.desk_serve.specs.Served.{Heard}
 
 -- whatever line is held, it is answered in the buffer `before`, which is `after` then; r is how many bytes the answer has
 abbrev pub AnswersHeld : List ℕ → ℕ → List ℤ → List ℤ → List ℕ → List ℕ → ℕ → Type 0
-AnswersHeld buffer held w v before after r = (line : List ℕ) → Held buffer held line → LineWritten (Answered w line v) before after r
+AnswersHeld buffer held w v before after r = (line : List ℕ) → LineHeld buffer held line → LineWritten (Answered w line v) before after r
 
 -- ---- one byte more
 -- what taking in the byte b does to the table, the held line and the answers so far

@@ -8,32 +8,30 @@ use native.Mathlib.Omega.{arith}
 use lib.IntN.{ℤ, pos}
 use lib.ListN.{length, take, drop}
 use lib.Seq.{take-append-seam}
-use Rattle.track.specs.Query.{queryReasons}
-use Rattle.track.specs.Refusals.{_when_, First}
+use Rattle.track.specs.Refusals.{First}
 use Rattle.track.specs.Laws.Refusals.{first-fixed, refused-not-zero}
 use Rattle.track.specs.declared.queries.Query.{Query}
-use Rattle.table.specs.Header.{clock}
 use Rattle.table.specs.Sound.{Sound}
 use Rattle.table.specs.Fresh.{IsFresh}
 use Rattle.tree.specs.Steps.{reportRefusals, dropRefusals}
-use Rattle.query.specs.Hits.{Hits, MoreHits}
+use Rattle.query.specs.Hits.{Hits}
 use Rattle.query.specs.Queried.{answerNumber, answerHits}
 use Rattle.query.specs.Laws.Queried.{hits-fixed}
 use Rattle.query.specs.declared.answer.Answer.{Answer}
 use Rattle.query.specs.declared.answer.Answer.the-variants.{Listed, TooMany, Refused}
-use Rattle.desk_lines.specs.Forms.{IsForm, Reads}
+use Rattle.desk_lines.specs.Forms.{IsForm, ReadsLine}
 use Rattle.desk_lines.specs.declared.Line.{Line}
 use Rattle.desk_lines.specs.declared.Line.the-variants.{Cell, Drop, When, Move, Bad}
-use Rattle.desk_answers.specs.Answers.{NoLine, HitsLine}
-use Rattle.desk_answers.specs.Laws.Decimal.{one-no, one-hits}
-use Rattle.desk_feed.specs.Lines.{Parted, lastLine}
-use Rattle.desk_feed.specs.Laws.Lines.{parted-once}
-use Rattle.desk_serve.specs.Answered.{longestLine, listPlaces, AnswerLine, QueryLine, OutcomeLine, StepLine, IsLine, FormLine, Answered, Session, no-line, and-line}
+use Rattle.desk_answers.specs.AnswerLines.{NoLine, HitsLine}
+use Rattle.desk_answers.specs.Laws.AnswerLines.{one-no, one-hits}
+use Rattle.desk_lines.specs.Lines.{CutInto, lastLine}
+use Rattle.desk_lines.specs.Laws.Lines.{cut-once}
+use Rattle.desk_serve.specs.Answered.{longestLine, deskCells, AnswerLine, QueryLine, OutcomeLine, StepLine, IsLine, FormLine, Answered, Session, no-line, and-line}
 use Rattle.alike.specs.Alike.{Alike}
-use Rattle.alike.specs.Laws.Alike.{query-number, ids-alike, report-alike, drop-alike, fresh-alike, alike-itself}
+use Rattle.alike.specs.Laws.Alike.{query-number, ids-alike, report-alike, drop-alike, fresh-alike, alike-itself, reasonsAt}
 
 -- ---- what a line is
-same-reading : {line : List ℕ} {f g : Line} → Reads line f → Reads line g → f ≡ g
+same-reading : {line : List ℕ} {f g : Line} → ReadsLine line f → ReadsLine line g → f ≡ g
 same-reading {line} {f} {g} a b = by (a .right) (b .right)
   where
     by : (f ≡ Bad) ⊎ IsForm f line → (g ≡ Bad) ⊎ IsForm g line → f ≡ g
@@ -70,47 +68,43 @@ as-no (TooMany m) list n p = p
 as-no (Refused x) list n p = p
 
 -- two lines with one number, and with the same identifiers where nothing is refused
-query-same : {w v : List ℤ} {B : Type 0} {k : Query} {a b : List ℕ} (p : QueryLine w B k a) (q : QueryLine v B k b) → answerNumber (p .answer) ≡ answerNumber (q .answer)
-    → (answerNumber (p .answer) ≡ 0 → (ids jds : List ℤ) → Hits w k ids → Hits v k jds → ids ≡ jds) → a ≡ b
-query-same {a} {b} p q same ids-same = by (ℕ-discrete (answerNumber (p .answer)) 0)
+query-same : {w v : List ℤ} {B : Type 0} {q : Query} {a b : List ℕ} (p : QueryLine w B q a) (p′ : QueryLine v B q b) → answerNumber (p .answer) ≡ answerNumber (p′ .answer)
+    → (answerNumber (p .answer) ≡ 0 → (ids jds : List ℤ) → Hits w q ids → Hits v q jds → ids ≡ jds) → a ≡ b
+query-same {a} {b} p p′ same ids-same = by (ℕ-discrete (answerNumber (p .answer)) 0)
   where
     by : Dec (answerNumber (p .answer) ≡ 0) → a ≡ b
     by (yes e) =
         let g = sym same ∙ e in
         let l = p .queried .accepted e in
-        let m = q .queried .accepted g in
+        let m = p′ .queried .accepted g in
         let ids = ids-same e (l .ids) (m .ids) (l .hits) (m .hits) in
         let first : take (answerHits (p .answer)) (p .list′) ≡ l .ids = rw (l .hit-count, l .written) (take-append-seam (l .ids) (drop (length (l .ids)) (p .list))) in
-        let second : take (answerHits (q .answer)) (q .list′) ≡ m .ids = rw (m .hit-count, m .written) (take-append-seam (m .ids) (drop (length (m .ids)) (q .list))) in
-        one-hits (rw first at (as-hits (p .answer) (p .list′) e (p .spelt))) (rw (second ∙ sym ids) at (as-hits (q .answer) (q .list′) g (q .spelt)))
-    by (no n) = one-no (as-no (p .answer) (p .list′) n (p .spelt)) (rw (← same) at (as-no (q .answer) (q .list′) (λ e. n (same ∙ e)) (q .spelt)))
+        let second : take (answerHits (p′ .answer)) (p′ .list′) ≡ m .ids = rw (m .hit-count, m .written) (take-append-seam (m .ids) (drop (length (m .ids)) (p′ .list))) in
+        one-hits (rw first at (as-hits (p .answer) (p .list′) e (p .spelt))) (rw (second ∙ sym ids) at (as-hits (p′ .answer) (p′ .list′) g (p′ .spelt)))
+    by (no n) = one-no (as-no (p .answer) (p .list′) n (p .spelt)) (rw (← same) at (as-no (p′ .answer) (p′ .list′) (λ e. n (same ∙ e)) (p′ .spelt)))
 
 -- the reasons look at the length of the list alone, and the desk's list has one length
-abbrev Tried : List ℤ → Type 0 → Query → ℕ → Type 0
-Tried w B k n = First (1 when (Sound w → ⊥) ∷ (queryReasons (clock w) B k ++ (10 when (MoreHits w k listPlaces) ∷ []))) n
+tried : {w : List ℤ} {B : Type 0} {q : Query} {a : List ℕ} (p : QueryLine w B q a) → First (reasonsAt w B q deskCells) (answerNumber (p .answer))
+tried {w} {B} {q} p =
+    subst (λ (n : ℕ). First (reasonsAt w B q n) (answerNumber (p .answer))) (p .places) (p .queried .refusal)
 
-tried : {w : List ℤ} {B : Type 0} {k : Query} {a : List ℕ} (p : QueryLine w B k a) → Tried w B k (answerNumber (p .answer))
-tried {w} {B} {k} p =
-    subst (λ (n : ℕ). First (1 when (Sound w → ⊥) ∷ (queryReasons (clock w) B k ++ (10 when (MoreHits w k n) ∷ []))) (answerNumber (p .answer))) (p .places) (p .queried .refusal)
-
-query-line-fixed : {w : List ℤ} {B : Type 0} {k : Query} {a b : List ℕ} → QueryLine w B k a → QueryLine w B k b → a ≡ b
-query-line-fixed {w} {B} {k} p q =
-    query-same p q
-    (first-fixed (1 when (Sound w → ⊥) ∷ (queryReasons (clock w) B k ++ (10 when (MoreHits w k listPlaces) ∷ []))) (answerNumber (p .answer)) (answerNumber (q .answer)) (tried p) (tried q))
+query-line-fixed : {w : List ℤ} {B : Type 0} {q : Query} {a b : List ℕ} → QueryLine w B q a → QueryLine w B q b → a ≡ b
+query-line-fixed {w} {B} {q} p p′ =
+    query-same p p′
+    (first-fixed (reasonsAt w B q deskCells) (answerNumber (p .answer)) (answerNumber (p′ .answer)) (tried p) (tried p′))
     (λ e ids jds h j. hits-fixed h j)
 
-query-alike : {w v : List ℤ} {B : Type 0} {k : Query} {a b : List ℕ} → Alike w v → QueryLine w B k a → QueryLine v B k b → a ≡ b
-query-alike {B} {k} alike p q =
-    query-same p q (query-number alike B k listPlaces (answerNumber (p .answer)) (answerNumber (q .answer)) (tried p) (tried q))
-    (λ e ids jds h j. ids-alike {B = B} {places = listPlaces} alike (tried p) e h j)
+query-alike : {w v : List ℤ} {B : Type 0} {q : Query} {a b : List ℕ} → Alike w v → QueryLine w B q a → QueryLine v B q b → a ≡ b
+query-alike {B} {q} alike p p′ =
+    query-same p p′ (query-number alike B q deskCells (answerNumber (p .answer)) (answerNumber (p′ .answer)) (tried p) (tried p′))
+    (λ e ids jds h j. ids-alike {B = B} {places = deskCells} alike (tried p) e h j)
 
 -- ---- a form, and a line
 form-fixed : (f : Line) (w v u : List ℤ) {a b : List ℕ} → FormLine f w v a → FormLine f w u b → a ≡ b
-form-fixed (Cell n) w v u p q =
-    step-fixed (λ i j s t. first-fixed (reportRefusals w (n .id) (n .x) (n .y) (n .vx) (n .vy) (n .minute) (n .expiry)) i j (s .refusal) (t .refusal)) p q
-form-fixed (Drop n) w v u p q = step-fixed (λ i j s t. first-fixed (dropRefusals w (n .id) (n .minute)) i j (s .refusal) (t .refusal)) p q
-form-fixed (When n) w v u p q = query-line-fixed (p .1) (q .1)
-form-fixed (Move n) w v u p q = query-line-fixed (p .1) (q .1)
+form-fixed (Cell r) w v u p q = step-fixed (λ i j s t. first-fixed (reportRefusals w r) i j (s .refusal) (t .refusal)) p q
+form-fixed (Drop d) w v u p q = step-fixed (λ i j s t. first-fixed (dropRefusals w (d .id) (d .minute)) i j (s .refusal) (t .refusal)) p q
+form-fixed (When k) w v u p q = query-line-fixed (p .1) (q .1)
+form-fixed (Move k) w v u p q = query-line-fixed (p .1) (q .1)
 form-fixed Bad w v u p q = p .1 ∙ sym (q .1)
 
 pub answered-fixed : {w v u : List ℤ} {line a b : List ℕ} → Answered w line v a → Answered w line u b → a ≡ b
@@ -125,10 +119,10 @@ step-line-alike same p q =
     (outcome-line-fixed (p .number) (p .spelt) (rw (← e .0) at (q .spelt)), e .1)
 
 form-alike : (f : Line) (w v w′ v′ : List ℤ) {a b : List ℕ} → Alike w v → FormLine f w w′ a → FormLine f v v′ b → (a ≡ b) × Alike w′ v′
-form-alike (Cell n) w v w′ v′ alike p q = step-line-alike (λ i j s t. report-alike alike (n .id) (n .minute) s t) p q
-form-alike (Drop n) w v w′ v′ alike p q = step-line-alike (λ i j s t. drop-alike alike (n .id) (n .minute) s t) p q
-form-alike (When n) w v w′ v′ alike p q = (query-alike alike (p .1) (q .1), rw (p .0, q .0) alike)
-form-alike (Move n) w v w′ v′ alike p q = (query-alike alike (p .1) (q .1), rw (p .0, q .0) alike)
+form-alike (Cell r) w v w′ v′ alike p q = step-line-alike (λ i j s t. report-alike alike s t) p q
+form-alike (Drop d) w v w′ v′ alike p q = step-line-alike (λ i j s t. drop-alike alike s t) p q
+form-alike (When k) w v w′ v′ alike p q = (query-alike alike (p .1) (q .1), rw (p .0, q .0) alike)
+form-alike (Move k) w v w′ v′ alike p q = (query-alike alike (p .1) (q .1), rw (p .0, q .0) alike)
 form-alike Bad w v w′ v′ alike p q = (p .1 ∙ sym (q .1), rw (p .0, q .0) alike)
 
 pub answered-alike : {w v w′ v′ : List ℤ} {line a b : List ℕ} → Alike w v → Answered w line w′ a → Answered v line v′ b → (a ≡ b) × Alike w′ v′
@@ -166,7 +160,7 @@ session-sound s t = session-alike (alike-itself s) t t refl .1 .sound
 
 -- so whole runs from fresh tables print the same on the same input
 pub run-fixed : {cells : ℤ} {u u′ w v w′ v′ : List ℤ} {input r s o p : List ℕ} {ls ms : List (List ℕ)} → IsFresh cells u w → IsFresh cells u′ v
-    → Parted input ls r → Parted input ms s → Session w (ls ++ lastLine r) w′ o → Session v (ms ++ lastLine s) v′ p → o ≡ p
+    → CutInto input ls r → CutInto input ms s → Session w (ls ++ lastLine r) w′ o → Session v (ms ++ lastLine s) v′ p → o ≡ p
 run-fixed f g x y s t =
-    let once = parted-once x y in
+    let once = cut-once x y in
     session-alike (fresh-alike f g) s t (ap₂ (λ ls r. ls ++ lastLine r) (once .0) (once .1)) .0

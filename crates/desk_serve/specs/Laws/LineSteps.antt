@@ -5,7 +5,7 @@ use lib.IntN.{pos}
 use Rattle.track.specs.Refusals.{number}
 use Rattle.track.specs.declared.refusal.Refusal.{Refusal}
 use Rattle.track.specs.declared.refusal.Refusal.the-variants.{NotSound, BadCapacity, ShortTable, OutOfRange, BeforeClock, ExpiresFirst, Backward, NotLive, Full, ShortList, BadHeader, BadRecord, ShortBytes}
-use Rattle.desk_answers.specs.Answers.{NoLine}
+use Rattle.desk_answers.specs.AnswerLines.{NoLine}
 use Rattle.desk_serve.specs.Answered.{OutcomeLine}
 
 pub refused-line : (r : Refusal) (s : List ℕ) → NoLine (pos (number r)) s → OutcomeLine (number r) s

@@ -5,23 +5,23 @@ use Prim.Native.Nat.{ℕ, _+_, _≤_, _<_}
 use native.Mathlib.Omega.{arith}
 use lib.IntN.{ℤ}
 use lib.ListN.{length, take}
-use Rattle.desk_lines.specs.Forms.{Reads}
+use Rattle.desk_lines.specs.Forms.{ReadsLine}
 use Rattle.desk_lines.specs.declared.Line.{Line}
 use Rattle.desk_lines.specs.declared.Line.the-variants.{Bad}
-use Rattle.desk_feed.specs.Held.{Held}
-use Rattle.desk_feed.specs.Laws.Held.{held-whole, held-over}
-use Rattle.desk_answers.specs.Answers.{badLine}
+use Rattle.desk_lines.specs.LineHeld.{LineHeld}
+use Rattle.desk_lines.specs.Laws.LineHeld.{held-whole, held-over}
+use Rattle.desk_answers.specs.AnswerLines.{badLine}
 use Rattle.desk_serve.specs.Answered.{longestLine, IsLine, FormLine, Answered}
 
-pub short-line : {line : List ℕ} {f : Line} → length line ≤ longestLine → Reads line f → IsLine line f
+pub short-line : {line : List ℕ} {f : Line} → length line ≤ longestLine → ReadsLine line f → IsLine line f
 short-line h reads = record { short = λ k. reads; long = λ k. absurd (omega arith) }
 
 -- a form's answer is the line's
-pub answered-form : {w v : List ℤ} {line answer : List ℕ} {f : Line} → length line ≤ longestLine → Reads line f → FormLine f w v answer → Answered w line v answer
+pub answered-form : {w v : List ℤ} {line answer : List ℕ} {f : Line} → length line ≤ longestLine → ReadsLine line f → FormLine f w v answer → Answered w line v answer
 answered-form {f} h reads a = record { form = f; is = short-line h reads; answered = a }
 
 -- the buffer has one place more than the longest line
-module _ {buffer : List ℕ} {held : ℕ} {line : List ℕ} (places : length buffer ≡ longestLine + 1) (h : Held buffer held line) where
+module _ {buffer : List ℕ} {held : ℕ} {line : List ℕ} (places : length buffer ≡ longestLine + 1) (h : LineHeld buffer held line) where
   pub too-long : (w : List ℤ) → longestLine < held → Answered w line w badLine
   too-long w over = record {
     form = Bad;

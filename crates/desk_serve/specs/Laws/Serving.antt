@@ -1,4 +1,4 @@
--- Laws of `Serving`.
+-- A byte taken in, byte after byte of a piece, piece after piece, and the end of the input.
 use mathlib.Core.Path.{_≡_, refl, sym, ap, _∙_}
 use mathlib.Core.List.{List, [], _∷_, _++_, append-assoc, append-nil}
 use Prim.Native.Nat.{ℕ, zero, suc, _+_, _-_, _≤_, _<_}
@@ -8,11 +8,11 @@ use lib.IntN.{ℤ}
 use lib.ListN.{length, getD, take, drop, length-append, length-drop, drop-of-length-le}
 use borrow.Rule.Slice.PartMut.{putMid}
 use lib.Seq.{take-suc, take-at, drop-at, drop-drop, take-all, take-nil, length-take-le}
-use Rattle.desk_feed.specs.Lines.{lineFeed, NoFeed, lastLine}
-use Rattle.desk_feed.specs.Laws.Lines.{parted-rest, parted-byte, parted-feed, parted-then}
-use Rattle.desk_feed.specs.Held.{Held, KeepsByte}
-use Rattle.desk_feed.specs.Laws.Held.{held-none, held-some, held-whole}
-use Rattle.desk_answers.specs.Answers.{LineWritten}
+use Rattle.desk_lines.specs.Lines.{lineFeed, NoFeed, lastLine}
+use Rattle.desk_lines.specs.Laws.Lines.{cut-rest, cut-byte, cut-feed, cut-then}
+use Rattle.desk_lines.specs.LineHeld.{LineHeld, KeepsByte}
+use Rattle.desk_lines.specs.Laws.LineHeld.{held-none, held-some, held-whole}
+use Rattle.desk_answers.specs.AnswerLines.{LineWritten}
 use Rattle.desk_serve.specs.Answered.{longestLine, longestAnswer, Answered, Session, no-line, and-line}
 use Rattle.desk_serve.specs.Served.{Heard, Serves, Ends}
 use Rattle.desk_serve.specs.Inner.Serving.{AnswersHeld, TakesByte}
@@ -23,7 +23,7 @@ heard-byte {b} {buffer} {held} other few inside keeps = record {
   hears = λ w begun bytes h. record {
     lines = h .lines;
     rest = h .rest ++ b ∷ [];
-    parted = rw append-assoc at (parted-byte other (h .parted));
+    cut = rw append-assoc at (cut-byte other (h .cut));
     session = h .session;
     holds = keeps (h .rest) (h .holds);
   };
@@ -53,7 +53,7 @@ heard-feed {b} {t} {u} {buffer} {held} {out} {after} {written} {r} feed few insi
       record {
         lines = h .lines ++ h .rest ∷ [];
         rest = [];
-        parted = rw append-assoc at (parted-feed feed (h .parted));
+        cut = rw append-assoc at (cut-feed feed (h .cut));
         session = rw (written-behind out written inside answer .0) (and-line (h .session) (answer .spelt));
         holds = held-none buffer;
       };
@@ -83,7 +83,7 @@ answer-fits {buffer} {held} few answers = answers (take held buffer) (held-some 
 -- ---- a piece, byte by byte
 -- what holds after i bytes of the piece
 pub record SoFar (w : List ℤ) (buffer : List ℕ) (held : ℕ) (piece out₀ : List ℕ) (i : ℕ) (v : List ℤ) (buffer′ : List ℕ) (held′ : ℕ) (out : List ℕ) (written : ℕ) : Type 0 where
-  pub hears : (begun : List ℕ) → NoFeed begun → Held buffer held begun → Heard w begun (take i piece) v (take written out) buffer′ held′
+  pub hears : (begun : List ℕ) → NoFeed begun → LineHeld buffer held begun → Heard w begun (take i piece) v (take written out) buffer′ held′
   pub taken-in : i ≤ length piece
   pub none-yet : i ≡ 0 → written ≡ 0
   pub held-in : held′ ≤ length buffer′
@@ -92,7 +92,7 @@ pub record SoFar (w : List ℤ) (buffer : List ℕ) (held : ℕ) (piece out₀ :
 
 pub so-far-none : (w : List ℤ) (buffer : List ℕ) (held : ℕ) (piece out : List ℕ) → held ≤ length buffer → SoFar w buffer held piece out 0 w buffer held out 0
 so-far-none w buffer held piece out few = record {
-  hears = λ begun clean h. record { lines = []; rest = begun; parted = rw append-nil (parted-rest clean); session = no-line; holds = h };
+  hears = λ begun clean h. record { lines = []; rest = begun; cut = rw append-nil (cut-rest clean); session = no-line; holds = h };
   taken-in = omega arith;
   none-yet = λ e. refl;
   held-in = few;
@@ -142,7 +142,7 @@ pub heard-then : {w v u : List ℤ} {begun p q a b buffer buffer′ : List ℕ} 
 heard-then {begun} {p} {q} h k = record {
   lines = h .lines ++ k .lines;
   rest = k .rest;
-  parted = rw append-assoc at (parted-then q (h .parted) (k .parted));
+  cut = rw append-assoc at (cut-then q (h .cut) (k .cut));
   session = session-then (h .session) (k .session);
   holds = k .holds;
 }
@@ -152,7 +152,7 @@ module _ {buffer : List ℕ} {held : ℕ} (places : length buffer ≡ longestLin
   pub ends-without : (w : List ℤ) (out : List ℕ) → held ≡ 0 → Ends w buffer held out w out 0
   ends-without w out none = record { answers = λ rest h. nothing rest h; written-in = omega arith; rest-kept = refl }
     where
-      nothing : (rest : List ℕ) → Held buffer held rest → Session w (lastLine rest) w []
+      nothing : (rest : List ℕ) → LineHeld buffer held rest → Session w (lastLine rest) w []
       nothing [] h = no-line
       nothing (b ∷ rest) h = absurd (omega (arith, ap length (held-whole h (omega arith)), ap (λ (n : ℕ). length (take n buffer)) none))
 
@@ -171,9 +171,9 @@ module _ {buffer : List ℕ} {held : ℕ} (places : length buffer ≡ longestLin
       fits : {P : List ℕ → Type 0} → LineWritten P before after r → r ≤ length after
       fits p = omega (arith, p .long, ap length (p .is), length-append (p .line) (drop r before))
 
-      one : (rest : List ℕ) → Held buffer held rest → Session w (lastLine rest) v (take r after)
+      one : (rest : List ℕ) → LineHeld buffer held rest → Session w (lastLine rest) v (take r after)
       one [] h = absurd (some (nothing-held h))
         where
-          nothing-held : Held buffer held [] → held ≡ 0
+          nothing-held : LineHeld buffer held [] → held ≡ 0
           nothing-held h = omega (arith, ap length (h .is), length-take-le held buffer (h .inside), ap length (take-nil {A = ℕ} (length buffer)))
       one (b ∷ rest) h = let p = answers (b ∷ rest) h in rw (whole p) (and-line no-line (p .spelt))

@@ -1,5 +1,4 @@
--- The loop that goes through a leafing and puts each cell that a step gives into a list: what a step makes of the list, what holds after
--- each step, and what holds in the end.
+-- The loop that goes through a leafing and puts each cell that a step gives into a list: what a step makes of the list, and what it comes to.
 use mathlib.Core.Path.{_≡_}
 use mathlib.Core.Bool.{Bool, true, false}
 use mathlib.Core.List.{List}
@@ -7,6 +6,7 @@ use Prim.Native.Nat.{ℕ, _+_, _*_, _≤_}
 use lib.IntN.{ℤ, pos}
 use lib.ListN.{length}
 use Rattle.words.specs.Parts.{put}
+use Rattle.words.specs.Inner.InLine.{PutInLine}
 use Rattle.track.specs.Refusals.{Gives}
 use Rattle.track.specs.declared.cell.Cell.{Cell}
 use Rattle.table.specs.Header.{greatestCapacity}
@@ -31,16 +31,11 @@ abbrev pub listAfter : Next → ℕ → List ℤ → List ℤ
 listAfter (One c) n list = put list (recordNumbers * n) recordNumbers (cellNumbers c)
 listAfter None n list = list
 
--- ---- these cells stand in the first places of the list, which made it t
-pub record Stand (list t : List ℤ) (cells : List Cell) : Type 0 where
-  pub is : t ≡ put list 0 (recordNumbers * length cells) (numbersOf cells)
-  pub long : length t ≡ length list
-
 -- what a leafing from its opening to its end comes to
-pub record Gathers (w list : List ℤ) (r : Listed) (list′ : List ℤ) : Type 0 where
+pub record ListsAll (w list : List ℤ) (r : Listed) (list′ : List ℤ) : Type 0 where
   pub cells : List Cell
   pub leafed : Leafed w (pos 0) cells
   pub number-is : Gives (openingReasons w) (r .number)
   pub count : r .cells ≡ length cells
   pub few : length cells ≤ greatestCapacity
-  pub stand : Stand list list′ cells
+  pub stand : PutInLine numbersOf recordNumbers list 0 cells list′

@@ -1,15 +1,13 @@
 -- The search for the next cell: what one cell more, and the cells beneath some entries, make of the best that was found until then.
 use mathlib.Core.List.{List, _++_, map}
-use Prim.Native.Nat.{ℕ, _≤_}
+use Prim.Native.Nat.{ℕ}
 use lib.IntN.{ℤ}
-use lib.ListN.{length}
 use Rattle.whole.specs.Lists.{_∈_}
-use Rattle.words.specs.Layout.{InTable}
 use Rattle.track.specs.Life.{LivesAt}
 use Rattle.track.specs.declared.cell.Cell.{Cell}
 use Rattle.node.specs.Entry.{Entry, cellOf}
-use Rattle.table.specs.Header.{capacity, clock, wordsFor, entriesAt}
-use Rattle.table.specs.SoundTree.{Nodes, TreeSound}
+use Rattle.table.specs.Header.{clock}
+use Rattle.table.specs.SoundTree.{Nodes}
 use Rattle.table.specs.Inner.Scan.{leavesIn}
 use Rattle.leafing.specs.NextLive.{NextOf}
 use Rattle.leafing.specs.declared.search.Next.{Next}
@@ -27,15 +25,10 @@ Best s cells r = NextOf (Alive (s .clock) cells) (s .last) r
 pub record Extends (s : Sought) (cells : List Cell) (best r : Next) : Type 0 where
   pub extends : (seen : List Cell) → Best s seen best → Best s (seen ++ cells) r
 
--- ---- the walk: what it needs at a node that has h levels beneath it
-pub record CanLook (w : List ℤ) (h i : ℕ) : Type 0 where
-  pub long-enough : wordsFor (capacity w) ≤ length w
-  pub in-table : InTable w i
-  pub tree : TreeSound (entriesAt w) (capacity w) (clock w) h i
-
+-- ---- the walk, over entries of a node that has h levels beneath it
 abbrev pub cellsIn : Nodes → ℕ → List Entry → List Cell
 cellsIn N h es = map cellOf (leavesIn N h es)
 
--- where `best` is the best of the cells seen, r is the best of those and of the cells beneath some entries of such a node
+-- where `best` is the best of the cells seen, r is the best of those and of the cells beneath these entries
 pub record Looks (N : Nodes) (s : Sought) (h : ℕ) (es : List Entry) (best r : Next) : Type 0 where
   pub looks : Extends s (cellsIn N h es) best r

@@ -17,12 +17,12 @@ use Rattle.track.specs.Life.{identifier, LivesAt}
 use Rattle.track.specs.declared.cell.Cell.{Cell}
 use Rattle.table.specs.Header.{clock}
 use Rattle.table.specs.Sound.{Sound, Live, held}
-use Rattle.table.specs.Inner.SoundBy.{held-in}
+use Rattle.table.specs.Laws.SoundBy.{held-in}
 use Rattle.leafing.specs.NextLive.{NextLive, Steps}
 use Rattle.leafing.specs.Laws.NextLive.{steps-sound, steps-fixed, live-same, one-not-none}
 use Rattle.leafing.specs.Leafed.{Leafed, no-more, one-more, LiveCells}
 use Rattle.leafing.specs.Inner.Search.{Extends}
-use Rattle.leafing.specs.Laws.Search.{none-yet, live-of, extends-none, extends-then, extends-passed, extends-first, extends-kept, extends-nearer}
+use Rattle.leafing.specs.Laws.Search.{none-yet, live-of, extends-none, extends-then, extends-passed, extends-first, extends-kept, extends-lower}
 use Rattle.leafing.specs.declared.search.Next.{Next}
 use Rattle.leafing.specs.declared.search.Next.the-variants.{One, None}
 use Rattle.leafing.specs.declared.search.Sought.{Sought}
@@ -124,7 +124,7 @@ one-extends s c best = by (≤ℤ-or-<ℤ (s .clock) (c .expiry .at)) (≤ℤ-or
     wanted : LivesAt (s .clock) c → s .last <ℤ c .id → (b : Next) → best ≡ b → (r : Next) × Extends s (c ∷ []) best r
     wanted life up None e = (One c, extends-first s c life up best e)
     wanted life up (One b) e =
-        ⊎-elim (λ le. (One b, extends-kept s c life up b best e le)) (λ lt. (One c, extends-nearer s c life up b best e (<ℤ→≤ℤ lt))) (≤ℤ-or-<ℤ (b .id) (c .id))
+        ⊎-elim (λ le. (One b, extends-kept s c life up b best e le)) (λ lt. (One c, extends-lower s c life up b best e (<ℤ→≤ℤ lt))) (≤ℤ-or-<ℤ (b .id) (c .id))
 
     by : (s .clock ≤ℤ c .expiry .at) ⊎ (c .expiry .at <ℤ s .clock) → (c .id ≤ℤ s .last) ⊎ (s .last <ℤ c .id) → (r : Next) × Extends s (c ∷ []) best r
     by (inr expired) k = (best, extends-passed s c best (λ life up. clashℤ expired life))

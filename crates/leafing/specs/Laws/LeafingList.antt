@@ -1,5 +1,5 @@
--- Laws of `LeafingList`.
-use mathlib.Core.Path.{_≡_, refl, sym, ap, _∙_, subst}
+-- The loop that goes through a leafing: what holds after each step and in the end, and that it ends.
+use mathlib.Core.Path.{_≡_, refl, sym, _∙_, subst}
 use mathlib.Core.Bool.{Bool, true, false}
 use mathlib.Core.List.{List, [], _∷_, _++_, append-assoc, append-nil}
 use Prim.Native.Nat.{ℕ, suc, _+_, _-_, _*_, _≤_, _<_}
@@ -8,8 +8,8 @@ use native.Mathlib.Omega.{arith}
 use lib.IntN.{ℤ, pos}
 use lib.ListN.{length, length-append}
 use Rattle.whole.specs.Laws.Tells.{true-not-false}
-use Rattle.words.specs.Parts.{put}
-use Rattle.words.specs.Laws.Parts.{put-none, put-beside, length-put}
+use Rattle.words.specs.Inner.InLine.{Pieces, PutInLine}
+use Rattle.words.specs.Laws.InLine.{none-in-line, one-in-line}
 use Rattle.track.specs.Refusals.{Gives}
 use Rattle.track.specs.declared.cell.Cell.{Cell}
 use Rattle.table.specs.Header.{greatestCapacity}
@@ -21,54 +21,21 @@ use Rattle.leafing.specs.Leafed.{Leafed, no-more, one-more}
 use Rattle.leafing.specs.Laws.Leafed.{leafed-live, leafed-exists}
 use Rattle.leafing.specs.Laws.LiveCells.{live-few}
 use Rattle.leafing.specs.Through.{recordNumbers, numbersOf}
-use Rattle.leafing.specs.Inner.LeafingList.{isOne, countAfter, listAfter, Stand, Gathers}
+use Rattle.leafing.specs.Inner.LeafingList.{isOne, countAfter, listAfter, ListsAll}
 use Rattle.leafing.specs.declared.search.Next.{Next}
 use Rattle.leafing.specs.declared.search.Next.the-variants.{One, None}
 use Rattle.leafing.specs.declared.through.Listed.{Listed}
 
--- ---- numbers of cells, one more at the end
-pub length-numbersOf : (cells : List Cell) → length (numbersOf cells) ≡ recordNumbers * length cells
+pub cell-pieces : Pieces cellNumbers recordNumbers numbersOf
 unfolding numbersOf
-length-numbersOf [] = refl
-length-numbersOf (c ∷ cells) = simp length-append (omega (arith, length-numbersOf cells))
-
-numbers-append : (cells : List Cell) (c : Cell) → numbersOf (cells ++ (c ∷ [])) ≡ numbersOf cells ++ cellNumbers c
-unfolding numbersOf
-numbers-append [] c = append-nil (cellNumbers c)
-numbers-append (d ∷ cells) c = rw (numbers-append cells c) (sym (append-assoc (cellNumbers d) (numbersOf cells) (cellNumbers c)))
-
-none-stand : (list : List ℤ) → Stand list list []
-unfolding numbersOf
-none-stand list = record { is = sym (put-none list 0); long = refl }
-
-one-stands : {list t : List ℤ} {cells : List Cell} (c : Cell) → Stand list t cells → recordNumbers * (length cells + 1) ≤ length list
-    → Stand list (put t (recordNumbers * length cells) recordNumbers (cellNumbers c)) (cells ++ (c ∷ []))
-one-stands {list} {t} {cells} c so-far fits = record {
-  is = ap (λ (l : List ℤ). put l (recordNumbers * k) recordNumbers (cellNumbers c)) (so-far .is) ∙ beside ∙ as-one;
-  long = length-put t (recordNumbers * k) recordNumbers (cellNumbers c) (omega (arith, so-far .long)) refl ∙ so-far .long;
-}
-  where
-    k : ℕ
-    k = length cells
-
-    beside : put (put list 0 (recordNumbers * k) (numbersOf cells)) (recordNumbers * k) recordNumbers (cellNumbers c)
-        ≡ put list 0 (recordNumbers * k + recordNumbers) (numbersOf cells ++ cellNumbers c)
-    beside =
-        let here : 0 + recordNumbers * k ≡ recordNumbers * k = omega arith in
-        rw here at (put-beside list 0 (recordNumbers * k) (numbersOf cells) recordNumbers (cellNumbers c) (omega arith) (length-numbersOf cells))
-
-    as-one : put list 0 (recordNumbers * k + recordNumbers) (numbersOf cells ++ cellNumbers c)
-        ≡ put list 0 (recordNumbers * length (cells ++ (c ∷ []))) (numbersOf (cells ++ (c ∷ [])))
-    as-one =
-        let many : recordNumbers * length (cells ++ (c ∷ [])) ≡ recordNumbers * k + recordNumbers = simp length-append (omega arith) in
-        rw (many, numbers-append cells c) refl
+cell-pieces = record { none = refl; more = λ c cells. refl; size-is = λ c. refl }
 
 -- ---- the loop: n cells were given and stand in the list, and the leafing goes on from `last`, or it is at its end
 pub record Going (w list₀ : List ℤ) (more : Bool) (n : ℕ) (last : ℤ) (list : List ℤ) : Type 0 where
   pub given : List Cell
   pub count : n ≡ length given
   pub few : n ≤ greatestCapacity
-  pub stand : Stand list₀ list given
+  pub stand : PutInLine numbersOf recordNumbers list₀ 0 given list
   pub goes-on : more ≡ true → (rest : List Cell) → Leafed w last rest → Leafed w (pos 0) (given ++ rest)
   pub ended : more ≡ false → Leafed w (pos 0) given
 
@@ -82,7 +49,7 @@ going-none {list} = record {
   given = [];
   count = refl;
   few = omega arith;
-  stand = none-stand list;
+  stand = none-in-line cell-pieces list 0;
   goes-on = λ e rest l. l;
   ended = true-not-false;
 }
@@ -128,17 +95,20 @@ module _ {w list₀ : List ℤ} {n : ℕ} {last : ℤ} {list : List ℤ} (so-far
       given = so-far .given ++ (c ∷ []);
       count = simp length-append (omega (arith, so-far .count));
       few = going-few (One c) p;
-      stand = rw (so-far .count) (one-stands c (so-far .stand) (omega (arith, going-few (One c) p, so-far .count)));
+      stand = one-in-line cell-pieces c (so-far .stand) (omega (arith, going-few (One c) p, so-far .count)) (rw (so-far .count, here) refl);
       goes-on = λ e rest l. subst (Leafed w (pos 0)) (sym (append-assoc (so-far .given) (c ∷ []) rest)) (so-far .goes-on refl (c ∷ rest) (one-more p l));
       ended = true-not-false;
     }
+      where
+        here : 0 + recordNumbers * length (so-far .given) ≡ recordNumbers * length (so-far .given)
+        here = omega arith
 
     pub going-next : (r : Next) → Steps w last r → {more : Bool} {m : ℕ} {list′ : List ℤ} → more ≡ isOne r → m ≡ countAfter r n → list′ ≡ listAfter r n list
         → Going w list₀ more m (lastAfter r last) list′
     going-next r p e f g = rw (e, f, g) (stepped r p)
 
-pub gathered : {w list₀ : List ℤ} {n : ℕ} {last : ℤ} {list : List ℤ} {r : Listed} → Going w list₀ false n last list → Gives (openingReasons w) (r .number) → r .cells ≡ n → Gathers w list₀ r list
-gathered so-far number many = record {
+pub all-listed : {w list₀ : List ℤ} {n : ℕ} {last : ℤ} {list : List ℤ} {r : Listed} → Going w list₀ false n last list → Gives (openingReasons w) (r .number) → r .cells ≡ n → ListsAll w list₀ r list
+all-listed so-far number many = record {
   cells = so-far .given;
   leafed = so-far .ended refl;
   number-is = number;

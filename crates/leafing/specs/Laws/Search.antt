@@ -1,28 +1,24 @@
--- Laws of `Search`.
+-- The search for the next cell: what becomes of the best by no cell, by one and by several, one law for each way through the walk, and that its end is the next live cell.
 use mathlib.Core.Path.{_≡_, refl, sym, ap, _∙_, subst}
 use mathlib.Core.Logic.{_⊎_, inl, inr, ⊎-elim}
 use mathlib.Core.List.{List, [], _∷_, _++_, map, map-append, flatMap, append-assoc, append-nil, List·Memᴰ·head, List·Memᴰ·not-nil, List·Memᴰ·append-cases, List·Memᴰ·eq-of-singleton, Memᴰ·append-left, Memᴰ·append-right}
 use Prim.Native.Nat.{ℕ, zero, suc, _+_, _-_, _≤_, _<_}
 use native.Mathlib.Numerals.{sub-one}
-use native.Mathlib.Omega.{arith}
 use lib.IntN.{ℤ}
-use lib.ListN.{drop, drop-of-length-le}
 use lib.Signed.{_≤ℤ_, _<ℤ_, ≤ℤ-refl}
 use Rattle.whole.specs.Lists.{_∈_}
 use Rattle.whole.specs.Laws.Order.{≤ℤ-trans}
-use Rattle.words.specs.Layout.{nodeAt, entryAt}
 use Rattle.track.specs.Life.{LivesAt}
 use Rattle.track.specs.Laws.Refusals.{not-zero}
 use Rattle.track.specs.declared.cell.Cell.{Cell}
-use Rattle.node.specs.Entry.{Entry, cellOf, childWord, childOf, entryCount, entriesOf}
-use Rattle.node.specs.Laws.Entry.{entry-in, entries-next, length-entriesOf}
-use Rattle.table.specs.Header.{capacity, clock, root, height, entriesAt}
-use Rattle.table.specs.SoundTree.{Nodes, EntrySound, TreeSound}
-use Rattle.table.specs.Inner.Scan.{leavesIn, leaves-in, leaves-cons}
-use Rattle.table.specs.Laws.ScanParts.{node-in-table}
-use Rattle.table.specs.Sound.{Sound, Live, held}
+use Rattle.node.specs.Entry.{Entry, cellOf, childOf}
+use Rattle.table.specs.Header.{clock, root, height, entriesAt}
+use Rattle.table.specs.SoundTree.{Nodes}
+use Rattle.table.specs.Inner.Scan.{leavesIn}
+use Rattle.table.specs.Laws.Scan.{leaves-in, leaves-cons}
+use Rattle.table.specs.Sound.{Live, held}
 use Rattle.leafing.specs.NextLive.{NextOf, NextLive}
-use Rattle.leafing.specs.Inner.Search.{Alive, Best, Extends, CanLook, cellsIn, Looks}
+use Rattle.leafing.specs.Inner.Search.{Alive, Best, Extends, cellsIn, Looks}
 use Rattle.leafing.specs.declared.search.Next.{Next}
 use Rattle.leafing.specs.declared.search.Next.the-variants.{One, None}
 use Rattle.leafing.specs.declared.search.Sought.{Sought}
@@ -70,16 +66,16 @@ module _ (s : Sought) (c : Cell) where
         least seen b {d} a above = ⊎-elim (λ m. absurd (b d m above)) (λ (e : d ≡ c). rw e (≤ℤ-refl (c .id))) (alive-of seen a)
 
     module _ (b : Cell) (best : Next) (e : best ≡ One b) where
-      -- one that is no nearer
+      -- one that is no lower
       pub extends-kept : b .id ≤ℤ c .id → Extends s (c ∷ []) best (One b)
       extends-kept le = rw e (record { extends = λ seen n. record { is-one = seen-still seen (n .is-one); above = n .above; least = λ d a above. least seen n a above } })
         where
           least : (seen : List Cell) → Best s seen (One b) → {d : Cell} → Alive (s .clock) (seen ++ (c ∷ [])) d → s .last <ℤ d .id → b .id ≤ℤ d .id
           least seen n {d} a above = ⊎-elim (λ m. n .least d m above) (λ (e : d ≡ c). rw e le) (alive-of seen a)
 
-      -- one that is nearer
-      pub extends-nearer : c .id ≤ℤ b .id → Extends s (c ∷ []) best (One c)
-      extends-nearer le = rw e (record { extends = λ seen n. record { is-one = new-one seen life; above = up; least = λ d a above. least seen n a above } })
+      -- one that is lower
+      pub extends-lower : c .id ≤ℤ b .id → Extends s (c ∷ []) best (One c)
+      extends-lower le = rw e (record { extends = λ seen n. record { is-one = new-one seen life; above = up; least = λ d a above. least seen n a above } })
         where
           least : (seen : List Cell) → Best s seen (One b) → {d : Cell} → Alive (s .clock) (seen ++ (c ∷ [])) d → s .last <ℤ d .id → c .id ≤ℤ d .id
           least seen n {d} a above = ⊎-elim (λ m. ≤ℤ-trans le (n .least d m above)) (λ (e : d ≡ c). rw e (≤ℤ-refl (c .id))) (alive-of seen a)
@@ -112,45 +108,7 @@ module _ {N : Nodes} {s : Sought} {h : ℕ} {es : List Entry} {best : Next} wher
     pub looked-child : {j : ℕ} → j ≡ childOf d → (h ≡ 0 → ⊥) → Looks N s (h - 1) (N j) best mid → Looks N s h ds mid r → Looks N s h es best r
     looked-child {j} is z f g = record { looks = rw (e, cells-inner N h d ds z) (extends-then (rw is at (f .looks)) (g .looks)) }
 
--- ---- and what it needs
-module _ {w : List ℤ} {h i : ℕ} (c : CanLook w h i) (from : ℕ) where
-  abbrev entry : Entry
-  entry = entryAt (nodeAt w i) from
-
-  pub none-left : entryCount (nodeAt w i) ≤ from → drop from (entriesAt w i) ≡ []
-  unfolding entriesAt
-  none-left le = drop-of-length-le (entriesOf (nodeAt w i)) {i = from} (omega (arith, length-entriesOf (nodeAt w i)))
-
-  module _ (low : from < entryCount (nodeAt w i)) where
-    pub one-more : drop from (entriesAt w i) ≡ entry ∷ drop (from + 1) (entriesAt w i)
-    unfolding entriesAt
-    one-more = entries-next (nodeAt w i) from low
-
-    is-entry : entry ∈ entriesAt w i
-    unfolding entriesAt
-    is-entry = entry-in (nodeAt w i) from low
-
-    pub can-child : {j : ℕ} → j ≡ childOf entry → (h ≡ 0 → ⊥) → CanLook w (h - 1) j
-    unfolding TreeSound
-    can-child {j} is z = rw is (record {
-      long-enough = c .long-enough;
-      in-table = node-in-table w (capacity w) (childOf entry) (childWord entry) (c .long-enough) (below h z (c .tree) .0 .child-in) refl;
-      tree = below h z (c .tree) .1;
-    })
-      where
-        below : (h : ℕ) → (h ≡ 0 → ⊥) → TreeSound (entriesAt w) (capacity w) (clock w) h i → EntrySound (entriesAt w) (capacity w) (clock w) (h - 1) entry × TreeSound (entriesAt w) (capacity w) (clock w) (h - 1) (childOf entry)
-        below zero z tree = absurd (z refl)
-        below (suc h) z tree = rw (sub-one (suc h)) (tree entry is-entry)
-
 -- ---- from the root of a sound table
-module _ {w : List ℤ} (sound : Sound w) where
-  pub can-look : (h i : ℕ) → h ≡ height w → i ≡ root w → CanLook w h i
-  can-look h i eh ei = rw (eh, ei) (record {
-    long-enough = sound .long-enough;
-    in-table = node-in-table w (capacity w) (root w) _ (sound .long-enough) (sound .root-in) refl;
-    tree = sound .tree;
-  })
-
 all-held : (w : List ℤ) → cellsIn (entriesAt w) (height w) (entriesAt w (root w)) ≡ held w
 all-held w = ap (map cellOf) (sym (leaves-in (entriesAt w) (height w) (root w)))
 

@@ -8,6 +8,7 @@ use lib.IntN.{ℤ, pos, natAbs}
 use lib.ListN.{length, take, drop}
 use Rattle.words.specs.Parts.{part, put}
 use Rattle.words.specs.Laws.Parts.{part-put, length-part}
+use Rattle.words.specs.Laws.InLine.{length-pieces}
 use Rattle.track.specs.Refusals.{First, Gives}
 use Rattle.track.specs.Laws.Refusals.{gives-fixed, not-zero}
 use Rattle.track.specs.declared.cell.Cell.{Cell}
@@ -18,8 +19,8 @@ use Rattle.leafing.specs.Laws.NextLive.{steps-unsound}
 use Rattle.leafing.specs.Leafed.{LiveCells}
 use Rattle.leafing.specs.Laws.Leafed.{leafed-fixed, leafed-none, leafed-live}
 use Rattle.leafing.specs.Through.{recordNumbers, numbersOf, throughReasons, LeafsThrough}
-use Rattle.leafing.specs.Inner.LeafingList.{Gathers}
-use Rattle.leafing.specs.Laws.LeafingList.{length-numbersOf}
+use Rattle.leafing.specs.Inner.LeafingList.{ListsAll}
+use Rattle.leafing.specs.Laws.LeafingList.{cell-pieces}
 use Rattle.leafing.specs.declared.through.Listed.{Listed}
 
 -- ---- one answer, and one list
@@ -55,7 +56,7 @@ no-numbers : (list : List ℤ) → numbersOf [] ++ drop (recordNumbers * 0) list
 unfolding numbersOf
 no-numbers list = refl
 
-module _ {w all : List ℤ} {found : Listed} {all′ : List ℤ} (g : Gathers w all found all′) where
+module _ {w all : List ℤ} {found : Listed} {all′ : List ℤ} (g : ListsAll w all found all′) where
   -- words that are no sound table give no cell
   none-unsound : (Sound w → ⊥) → g .cells ≡ []
   none-unsound n = leafed-none (g .leafed) (steps-unsound n)
@@ -83,7 +84,7 @@ module _ {w all : List ℤ} {found : Listed} {all′ : List ℤ} (g : Gathers w 
 
     first-are : take (recordNumbers * found .cells) all′ ≡ numbersOf (g .cells)
     unfolding part
-    first-are = rw (g .count, g .stand .is) (part-put all 0 (recordNumbers * length (g .cells)) (numbersOf (g .cells)) (omega (arith, g .few)) (length-numbersOf (g .cells)))
+    first-are = rw (g .count, g .stand .is) (part-put all 0 (recordNumbers * length (g .cells)) (numbersOf (g .cells)) (omega (arith, g .few)) (length-pieces cell-pieces (g .cells)))
 
     pub through-listed : {list : List ℤ} → recordNumbers * found .cells ≤ length list → {list′ : List ℤ}
         → list′ ≡ put list 0 (length (take (recordNumbers * found .cells) all′)) (take (recordNumbers * found .cells) all′) → LeafsThrough w list found list′

@@ -1,23 +1,18 @@
--- What a change makes of a node's words.
-use mathlib.Core.List.{List}
-use Prim.Native.Nat.{ℕ, _+_, _-_, _*_}
+-- A node's words changed.
+use mathlib.Core.Path.{_≡_}
+use mathlib.Core.List.{List, _++_}
+use Prim.Native.Nat.{ℕ, _+_}
 use lib.IntN.{ℤ}
-use Rattle.words.specs.Parts.{part, put}
-use Rattle.words.specs.Layout.{entryWords, entryOffset, setEntry}
-use Rattle.words.specs.Words.{withCount}
-use Rattle.node.specs.Entry.{Entry, entryCount}
+use lib.ListN.{length, take, drop}
+use Rattle.words.specs.Layout.{nodeWords}
+use Rattle.node.specs.Entry.{Entry, entryCountWord, IsCount, entriesOf}
 
--- the entry e behind the others
-unfoldable pub appended : List ℤ → Entry → List ℤ
-appended node e = withCount (setEntry node (entryCount node) e) (entryCount node + 1)
+-- l without what stands at place k
+abbrev pub without : {A : Type 0} → ℕ → List A → List A
+without k l = take k l ++ drop (k + 1) l
 
--- how many words stand behind entry k
-abbrev pub wordsBehind : List ℤ → ℕ → ℕ
-wordsBehind node k = entryWords * (entryCount node - 1 - k)
-
--- without entry k: the words behind it stand in its place
-unfoldable pub removed : List ℤ → ℕ → List ℤ
-removed node k =
-    withCount
-    (put node (entryOffset k) (wordsBehind node k) (part node (entryOffset k + entryWords) (wordsBehind node k)))
-    (entryCount node - 1)
+-- the words n of a node have become n′, with the entries es
+pub record NodeChanged (n : List ℤ) (es : List Entry) (n′ : List ℤ) : Type 0 where
+  pub whole : length n′ ≡ nodeWords
+  pub entries : entriesOf n′ ≡ es
+  pub still-counted : IsCount (entryCountWord n) → IsCount (entryCountWord n′)

@@ -1,4 +1,4 @@
--- Laws of a node's words changed: what its entries and its count are then.
+-- A node's words changed: what each change makes of them, and what the node's entries and its count are then.
 use mathlib.Core.Path.{_≡_, sym, ap, _∙_}
 use mathlib.Core.List.{List, [], _∷_, _++_}
 use Prim.Native.Nat.{ℕ, _+_, _-_, _*_, _<_, _≤_}
@@ -17,14 +17,30 @@ use Rattle.words.specs.Laws.Layout.{length-setEntry, entry-same, entry-other, o
 use Rattle.words.specs.Words.{natOf, withCount}
 use Rattle.node.specs.Entry.{Entry, valuesTo, entryCountWord, IsCount, entryCount, entriesOf}
 use Rattle.node.specs.Laws.Entry.{firstOf-same, take-firstOf, count-fits, length-entriesOf, entry-is}
-use Rattle.node.specs.Inner.Change.{appended, wordsBehind, removed}
+use Rattle.node.specs.Inner.Change.{without, NodeChanged}
 
-pub is-count : (n : ℕ) → n ≤ fullNode → IsCount (pos n)
+-- ---- what each change makes of the words
+-- the entry e behind the others
+unfoldable pub appended : List ℤ → Entry → List ℤ
+appended node e = withCount (setEntry node (entryCount node) e) (entryCount node + 1)
+
+-- how many words stand behind entry k
+abbrev pub wordsBehind : List ℤ → ℕ → ℕ
+wordsBehind node k = entryWords * (entryCount node - 1 - k)
+
+-- without entry k: the words behind it stand in its place
+unfoldable pub removed : List ℤ → ℕ → List ℤ
+removed node k =
+    withCount
+    (put node (entryOffset k) (wordsBehind node k) (part node (entryOffset k + entryWords) (wordsBehind node k)))
+    (entryCount node - 1)
+
+is-count : (n : ℕ) → n ≤ fullNode → IsCount (pos n)
 is-count n few = record { from = leZ-yes (le→leb 0 n (omega arith)); to = leZ-yes (le→leb n fullNode few) }
 
 -- ---- a node that is counted anew
 module _ (node : List ℤ) (n : ℕ) where
-  pub length-withCount : length (withCount node n) ≡ length node
+  length-withCount : length (withCount node n) ≡ length node
   unfolding withCount
   length-withCount = length-set node 0 (pos n)
 
@@ -38,7 +54,7 @@ module _ (node : List ℤ) (n : ℕ) where
     countWord-withCount = getD-set-same node 0 (pos n) (pos 0) (omega arith)
 
     module _ (few : n ≤ fullNode) where
-      pub count-withCount : entryCount (withCount node n) ≡ n
+      count-withCount : entryCount (withCount node n) ≡ n
       unfolding entryCount natOf
       count-withCount = rw countWord-withCount (omega arith)
 
@@ -47,20 +63,27 @@ module _ (node : List ℤ) (n : ℕ) where
       entries-withCount = rw count-withCount (firstOf-same (entryAt (withCount node n)) (entryAt node) n (λ k l. entry-withCount k))
 
     -- its first entries are left
-    pub entries-kept : n ≤ entryCount node → entriesOf (withCount node n) ≡ take n (entriesOf node)
+    entries-kept : n ≤ entryCount node → entriesOf (withCount node n) ≡ take n (entriesOf node)
     unfolding entriesOf
     entries-kept few = entries-withCount (omega (arith, count-fits node)) ∙ sym (take-firstOf (entryAt node) n (entryCount node) few)
 
+    pub keep-changes : n ≤ entryCount node → NodeChanged node (take n (entriesOf node)) (withCount node n)
+    keep-changes few = record {
+      whole = length-withCount ∙ long;
+      entries = entries-kept few;
+      still-counted = λ was. rw countWord-withCount (is-count n (omega (arith, count-fits node)));
+    }
+
 -- ---- an entry put in another's place
 module _ (node : List ℤ) (k : ℕ) (e : Entry) (long : length node ≡ nodeWords) (low : k < fullNode) (whole : length e ≡ entryWords) where
-  pub countWord-put : entryCountWord (setEntry node k e) ≡ entryCountWord node
+  countWord-put : entryCountWord (setEntry node k e) ≡ entryCountWord node
   countWord-put = own-same node k long low e whole 0 (pos 0) (omega arith)
 
-  pub count-put : entryCount (setEntry node k e) ≡ entryCount node
+  count-put : entryCount (setEntry node k e) ≡ entryCount node
   unfolding entryCount
   count-put = rw countWord-put
 
-pub entries-put : (node : List ℤ) (k : ℕ) (e : Entry) → length node ≡ nodeWords → k < entryCount node → length e ≡ entryWords
+entries-put : (node : List ℤ) (k : ℕ) (e : Entry) → length node ≡ nodeWords → k < entryCount node → length e ≡ entryWords
     → entriesOf (setEntry node k e) ≡ set (entriesOf node) k e
 entries-put node k e long low whole = ext-getD [] (entriesOf (setEntry node k e)) (set (entriesOf node) k e) many each
   where
@@ -83,6 +106,12 @@ entries-put node k e long low whole = ext-getD [] (entriesOf (setEntry node k e)
         let here : i < entryCount (setEntry node k e) = omega (arith, length-entriesOf (setEntry node k e)) in
         entry-is (setEntry node k e) i here ∙ at i (omega (arith, same)) (ℕ-discrete i k)
 
+pub put-changes : (node : List ℤ) (k : ℕ) (e : Entry) → length node ≡ nodeWords → k < entryCount node → length e ≡ entryWords
+    → NodeChanged node (set (entriesOf node) k e) (setEntry node k e)
+put-changes node k e long low whole =
+    let full : k < fullNode = omega (arith, count-fits node) in
+    record { whole = length-setEntry node k long full e whole; entries = entries-put node k e long low whole; still-counted = λ was. rw (countWord-put node k e long full whole) was }
+
 -- ---- an entry put behind the others
 module _ (node : List ℤ) (e : Entry) (long : length node ≡ nodeWords) (room : entryCount node < fullNode) (whole : length e ≡ entryWords) where
   put-behind : List ℤ
@@ -92,22 +121,18 @@ module _ (node : List ℤ) (e : Entry) (long : length node ≡ nodeWords) (room 
   unfolding put-behind
   long-behind = length-setEntry node (entryCount node) long room e whole
 
-  pub length-appended : length (appended node e) ≡ nodeWords
+  length-appended : length (appended node e) ≡ nodeWords
   unfolding appended put-behind
   length-appended = length-withCount put-behind (entryCount node + 1) ∙ long-behind
 
-  pub countWord-appended : entryCountWord (appended node e) ≡ pos (entryCount node + 1)
+  countWord-appended : entryCountWord (appended node e) ≡ pos (entryCount node + 1)
   unfolding appended put-behind
   countWord-appended = countWord-withCount put-behind (entryCount node + 1) long-behind
 
-  pub count-appended : entryCount (appended node e) ≡ entryCount node + 1
-  unfolding appended put-behind
-  count-appended = count-withCount put-behind (entryCount node + 1) long-behind (omega arith)
-
-  pub counted-appended : IsCount (entryCountWord (appended node e))
+  counted-appended : IsCount (entryCountWord (appended node e))
   counted-appended = rw countWord-appended (is-count (entryCount node + 1) (omega arith))
 
-  pub entries-appended : entriesOf (appended node e) ≡ entriesOf node ++ e ∷ []
+  entries-appended : entriesOf (appended node e) ≡ entriesOf node ++ e ∷ []
   unfolding appended put-behind entriesOf valuesTo
   entries-appended =
       let n = entryCount node in
@@ -116,6 +141,9 @@ module _ (node : List ℤ) (e : Entry) (long : length node ≡ nodeWords) (room 
     where
       other : (k : ℕ) → k < entryCount node → k ≡ entryCount node → ⊥
       other k l is = omega arith
+
+  pub append-changes : NodeChanged node (entriesOf node ++ e ∷ []) (appended node e)
+  append-changes = record { whole = length-appended; entries = entries-appended; still-counted = λ was. counted-appended }
 
 -- ---- an entry taken out
 module _ (node : List ℤ) (k : ℕ) (long : length node ≡ nodeWords) (low : k < entryCount node) where
@@ -135,19 +163,19 @@ module _ (node : List ℤ) (k : ℕ) (long : length node ≡ nodeWords) (low : k
   unfolding moved
   long-moved = length-put node (entryOffset k) (wordsBehind node k) _ (omega (arith, fits)) long-behind′ ∙ long
 
-  pub length-removed : length (removed node k) ≡ nodeWords
+  length-removed : length (removed node k) ≡ nodeWords
   unfolding removed moved
   length-removed = length-withCount moved (entryCount node - 1) ∙ long-moved
 
-  pub countWord-removed : entryCountWord (removed node k) ≡ pos (entryCount node - 1)
+  countWord-removed : entryCountWord (removed node k) ≡ pos (entryCount node - 1)
   unfolding removed moved
   countWord-removed = countWord-withCount moved (entryCount node - 1) long-moved
 
-  pub count-removed : entryCount (removed node k) ≡ entryCount node - 1
+  count-removed : entryCount (removed node k) ≡ entryCount node - 1
   unfolding removed moved
   count-removed = count-withCount moved (entryCount node - 1) long-moved (omega (arith, few))
 
-  pub counted-removed : IsCount (entryCountWord (removed node k))
+  counted-removed : IsCount (entryCountWord (removed node k))
   counted-removed = rw countWord-removed (is-count (entryCount node - 1) (omega (arith, few)))
 
   entry-removed : (i : ℕ) → entryAt (removed node k) i ≡ entryAt moved i
@@ -172,14 +200,14 @@ module _ (node : List ℤ) (k : ℕ) (long : length node ≡ nodeWords) (low : k
       ∙ part-part node (entryOffset k + entryWords) (wordsBehind node k) b entryWords inside
       ∙ ap (λ (a : ℕ). part node a entryWords) from
 
-  pub entries-removed : entriesOf (removed node k) ≡ take k (entriesOf node) ++ drop (k + 1) (entriesOf node)
+  entries-removed : entriesOf (removed node k) ≡ without k (entriesOf node)
   entries-removed = ext-getD [] (entriesOf (removed node k)) left many each
     where
       es : List Entry
       es = entriesOf node
 
       left : List Entry
-      left = take k es ++ drop (k + 1) es
+      left = without k es
 
       all : length es ≡ entryCount node
       all = length-entriesOf node
@@ -209,3 +237,6 @@ module _ (node : List ℤ) (k : ℕ) (long : length node ≡ nodeWords) (low : k
       each i l =
           let here : i < entryCount (removed node k) = omega (arith, length-entriesOf (removed node k)) in
           entry-is (removed node k) i here ∙ entry-removed i ∙ at i (omega (arith, count-removed)) (decLt i k)
+
+  pub remove-changes : NodeChanged node (without k (entriesOf node)) (removed node k)
+  remove-changes = record { whole = length-removed; entries = entries-removed; still-counted = λ was. counted-removed }

@@ -1,5 +1,6 @@
 -- Laws of a node's entries, one by one and from one on.
 use mathlib.Core.Path.{_≡_, refl, ap, _∙_}
+use mathlib.Core.Bool.{_&&_}
 use mathlib.Core.List.{List, [], _∷_, _++_}
 use Prim.Native.Nat.{ℕ, zero, suc, min, _+_, _<_, _≤_}
 use native.Mathlib.Nat.{not-suc-le-zero}
@@ -8,15 +9,17 @@ use native.Mathlib.Decide.{decLt}
 use native.Mathlib.Omega.{arith}
 use lib.Dec.{leb, leb→le}
 use lib.IntN.{ℤ, pos, negsuc}
-use lib.Signed.{_≤ℤ_, leZ-yes}
+use lib.Signed.{leZ}
 use lib.ListN.{length, getD, take, drop, length-append, List·getD-append, drop-of-length-le}
 use lib.Seq.{drop-cons, getD-at, take-all, take-append-le}
 use Rattle.whole.specs.Lists.{_∈_}
 use Rattle.whole.specs.Laws.Lists.{at-in}
 use Rattle.whole.specs.Tells.{Tells}
+use Rattle.whole.specs.Laws.Tells.{tells-as, tells-both}
+use Rattle.whole.specs.Laws.Order.{leZ-tells}
 use Rattle.words.specs.Layout.{entryAt, entryOffset, entryWords, fullNode}
 use Rattle.words.specs.Words.{natOf, rowsAt}
-use Rattle.words.specs.Laws.Words.{rowsAt-in-part}
+use Rattle.words.specs.Laws.Words.{natOf-tells, rowsAt-in-part}
 use Rattle.node.specs.Entry.{valuesTo, entryCountWord, IsCount, entryCount, entriesOf}
 
 -- ---- f 0, f 1, .. as many as n
@@ -66,11 +69,9 @@ count-is node h = same (entryCountWord node) h
     same (pos n) h = ap pos (omega (arith, leb→le n fullNode (h .to .le)))
     same (negsuc n) h = absurd (h .from .le)
 
--- a word that is not negative is a count where it is no more than a node has room for
-pub counted : (z : ℤ) → pos 0 ≤ℤ z → Tells (leb (natOf z) fullNode) (IsCount z)
-unfolding natOf
-counted (pos n) h = record { sure = λ t. record { from = h; to = leZ-yes t }; seen = λ k. k .to .le }
-counted (negsuc n) h = absurd (h .le)
+-- the test whether a word is a count
+pub count-tells : (z : ℤ) → Tells (leZ (pos 0) z && leb (natOf z) fullNode) (IsCount z)
+count-tells z = tells-as (tells-both leZ-tells (natOf-tells z fullNode)) (λ p. record { from = p .0; to = p .1 }) (λ c. (c .from, c .to))
 
 -- ---- the entries
 module _ (node : List ℤ) where

@@ -10,7 +10,6 @@ use lib.Signed.{_≤ℤ_}
 use Rattle.whole.specs.Lists.{_∈_}
 use Rattle.whole.specs.Within.{Within}
 use Rattle.whole.specs.Laws.Within.{abs-positive, add-in, mul-in, lit-in}
-use Rattle.words.specs.Layout.{entryWords}
 use Rattle.words.specs.Words.{rowAt}
 use Rattle.words.specs.Laws.Words.{rowAt-whole}
 use Rattle.track.specs.Numbers.{IsMinute}
@@ -68,10 +67,6 @@ stamped-in-range {minute} is early each = λ e m. each e m (natAbs minute) (rw (
 
 -- ---- an inner entry
 module _ (child : ℕ) (b : Bounds) (until stamp : ℤ) where
-  pub length-inner : length (innerEntry child b until stamp) ≡ entryWords
-  unfolding innerEntry rowAt
-  length-inner = refl
-
   pub child-inner : childWord (innerEntry child b until stamp) ≡ pos child
   unfolding innerEntry
   child-inner = refl
@@ -102,10 +97,6 @@ inner-worked-out leaf child stamp es =
 
 -- ---- a leaf's entry
 module _ (c : Cell) where
-  pub length-leaf : length (leafEntry c) ≡ entryWords
-  unfolding leafEntry
-  length-leaf = refl
-
   pub cell-leaf : cellOf (leafEntry c) ≡ c
   unfolding leafEntry cellOf
   cell-leaf = refl

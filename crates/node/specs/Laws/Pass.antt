@@ -1,4 +1,4 @@
--- Laws of `Pass`.
+-- One pass over a node's entries: its steps, and that the hull of the entries and their greatest expiry are what passes gather.
 use mathlib.Core.Path.{_≡_, refl, sym, ap}
 use mathlib.Core.Bool.{Bool, true, false, cond}
 use mathlib.Core.List.{List, [], _∷_, map, map-map}

@@ -10,15 +10,15 @@ use Rattle.query.specs.Queried.{answerNumber, answerHits, reasons}
 use Rattle.query.specs.Laws.Queried.{refused-hits}
 use Rattle.sheet_write.specs.Written.{writtenNumber}
 use Rattle.sheet_write.specs.Laws.Written.{refused-total}
-use Rattle.promises.specs.Happens.{Call, Fresh, Report, Drop, Window, Moving, Open, Leaf, Write, Read, Reply, Number, Listed, Bytes, told, hitsTold, WasAsked, WasWritten, Happens, reasonsOf, refusedBy, ChangesNothing, window, moving, OnlyReads, query, opening, step, writing}
+use Rattle.promises.specs.Happens.{Call, Fresh, Report, Drop, Window, Moving, Open, Leaf, Write, Read, Reply, Number, Listed, Bytes, told, hitsTold, WasAsked, WasWritten, Happens, reasonsOf, refusedBy, ChangesNothing, IsQuery, window, moving, GoesBack, OnlyReads, query, opening, step, writing}
 
 -- ---- the number is the first of the call's reasons that holds
 pub call-number : (w : List ℤ) (c : Call) (a : Reply) (v : List ℤ) → Happens w c a v → First (reasonsOf w c) (told a)
 call-number w (Fresh cells) a v h = rw (h .reply) (h .makes .refusal)
-call-number w (Report id x y vx vy minute expiry) a v h = rw (h .reply) (h .steps .refusal)
+call-number w (Report r) a v h = rw (h .reply) (h .steps .refusal)
 call-number w (Drop id minute) a v h = rw (h .reply) (h .steps .refusal)
-call-number w (Window k list) a v h = rw (h .reply) (h .queried .refusal)
-call-number w (Moving k list) a v h = rw (h .reply) (h .queried .refusal)
+call-number w (Window q list) a v h = rw (h .reply) (h .queried .refusal)
+call-number w (Moving q list) a v h = rw (h .reply) (h .queried .refusal)
 call-number w Open a v h = rw (h .reply) (h .refusal)
 call-number w (Leaf last) a v h = ap told (h .reply)
 call-number w (Write bytes) a v h = rw (h .reply) (h .writes .refusal)
@@ -35,7 +35,7 @@ only-reads a writing h = h .unchanged
 -- ---- a refused call changes nothing
 module _ {w : List ℤ} (c : Call) (a : Reply) {v : List ℤ} (refused : told a ≡ 0 → ⊥) where
   -- one that replies with its number alone
-  numbered : {n : ℕ} → ((k hits : ℕ) → refusedBy c k hits ≡ Number k) → a ≡ Number n → ((n ≡ 0 → ⊥) → v ≡ w) → ChangesNothing w c a v
+  numbered : {n : ℕ} → ((m hits : ℕ) → refusedBy c m hits ≡ Number m) → a ≡ Number n → ((n ≡ 0 → ⊥) → v ≡ w) → ChangesNothing w c a v
   numbered form is same = record {
     same-table = same (λ e. refused (ap told is ∙ e));
     same-lent = is ∙ ap Number (sym (ap told is)) ∙ sym (form (told a) (hitsTold a));
@@ -43,7 +43,7 @@ module _ {w : List ℤ} (c : Call) (a : Reply) {v : List ℤ} (refused : told a 
   }
 
   -- a query
-  asked : {B : Type 0} {k : Query} {list : List ℤ} → ((n hits : ℕ) → refusedBy c n hits ≡ Listed n hits list) → WasAsked w B k list a v → ChangesNothing w c a v
+  asked : {B : Type 0} {q : Query} {list : List ℤ} → ((n hits : ℕ) → refusedBy c n hits ≡ Listed n hits list) → WasAsked w B q list a v → ChangesNothing w c a v
   asked {list} form h =
       let is = h .reply in
       let not : answerNumber (h .answer) ≡ 0 → ⊥ = λ e. refused (ap told is ∙ e) in
@@ -69,20 +69,25 @@ module _ {w : List ℤ} (c : Call) (a : Reply) {v : List ℤ} (refused : told a 
       }
 
 pub call-refused : {w : List ℤ} (c : Call) (a : Reply) {v : List ℤ} → Happens w c a v → (told a ≡ 0 → ⊥) → ChangesNothing w c a v
-call-refused (Fresh cells) a h n = numbered (Fresh cells) a n (λ k hits. refl) (h .reply) (h .makes .refused)
-call-refused (Report id x y vx vy minute expiry) a h n = numbered (Report id x y vx vy minute expiry) a n (λ k hits. refl) (h .reply) (h .steps .refused)
-call-refused (Drop id minute) a h n = numbered (Drop id minute) a n (λ k hits. refl) (h .reply) (h .steps .refused)
-call-refused (Window k list) a h n = asked (Window k list) a n (λ n hits. refl) h
-call-refused (Moving k list) a h n = asked (Moving k list) a n (λ n hits. refl) h
-call-refused Open a h n = numbered Open a n (λ k hits. refl) (h .reply) (λ m. h .unchanged)
+call-refused (Fresh cells) a h n = numbered (Fresh cells) a n (λ m hits. refl) (h .reply) (h .makes .refused)
+call-refused (Report r) a h n = numbered (Report r) a n (λ m hits. refl) (h .reply) (h .steps .refused)
+call-refused (Drop id minute) a h n = numbered (Drop id minute) a n (λ m hits. refl) (h .reply) (h .steps .refused)
+call-refused (Window q list) a h n = asked (Window q list) a n (λ n hits. refl) h
+call-refused (Moving q list) a h n = asked (Moving q list) a n (λ n hits. refl) h
+call-refused Open a h n = numbered Open a n (λ m hits. refl) (h .reply) (λ m. h .unchanged)
 call-refused (Leaf last) a h n = absurd (n (ap told (h .reply)))
 call-refused (Write bytes) a h n = wrote (Write bytes) a n (λ n hits. refl) h
-call-refused (Read cells bytes) a h n = numbered (Read cells bytes) a n (λ k hits. refl) (h .reply) (h .reads .refused)
+call-refused (Read cells bytes) a h n = numbered (Read cells bytes) a n (λ m hits. refl) (h .reply) (h .reads .refused)
 
 -- ---- a query that goes backward is refused
-pub backward : {w : List ℤ} {B : Type 0} {k : Query} (list : List ℤ) (n : ℕ) → First (reasons w B k list) n → B → (n ≡ 1) ⊎ ((n ≡ 4) ⊎ ((n ≡ 5) ⊎ (n ≡ 7)))
-backward list n (inl h) b = inl (h .1)
-backward list n (inr (s, inl h)) b = inr (inl (h .1))
-backward list n (inr (s, inr (r, inl h))) b = inr (inr (inl (h .1)))
-backward list n (inr (s, inr (r, inr (l, inl h)))) b = inr (inr (inr (h .1)))
-backward list n (inr (s, inr (r, inr (l, inr h)))) b = absurd (h .0 (inl b))
+refused-back : {w : List ℤ} {B : Type 0} {q : Query} (list : List ℤ) (n : ℕ) → First (reasons w B q list) n → B → (n ≡ 1) ⊎ ((n ≡ 4) ⊎ ((n ≡ 5) ⊎ (n ≡ 7)))
+refused-back list n (inl h) b = inl (h .1)
+refused-back list n (inr (s, inl h)) b = inr (inl (h .1))
+refused-back list n (inr (s, inr (r, inl h))) b = inr (inr (inl (h .1)))
+refused-back list n (inr (s, inr (r, inr (l, inl h)))) b = inr (inr (inr (h .1)))
+refused-back list n (inr (s, inr (r, inr (l, inr h)))) b = absurd (h .0 (inl b))
+
+pub backward : (w : List ℤ) {c : Call} {q : Query} {list : List ℤ} (a : Reply) (v : List ℤ) (query : IsQuery c q list) → Happens w c a v → GoesBack query
+    → (told a ≡ 1) ⊎ ((told a ≡ 4) ⊎ ((told a ≡ 5) ⊎ (told a ≡ 7)))
+backward w {c} {list} a v window h = refused-back list (told a) (call-number w c a v h)
+backward w {c} {list} a v moving h = refused-back list (told a) (call-number w c a v h)

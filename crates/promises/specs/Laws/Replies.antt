@@ -24,27 +24,27 @@ use Rattle.calls.specs.SheetCalls.{WriteGives}
 use Rattle.promises.specs.Happens.{Call, Write, Read, Reply, Number, Listed, Given, Bytes, told, WasAsked, WasWritten, Happens, IsQuery, window, moving}
 
 -- ---- queries
-module _ {w : List ℤ} {B : Type 0} {k : Query} {list : List ℤ} {a : Reply} {v : List ℤ} (h : WasAsked w B k list a v) where
+module _ {w : List ℤ} {B : Type 0} {q : Query} {list : List ℤ} {a : Reply} {v : List ℤ} (h : WasAsked w B q list a v) where
   number-is : {n : ℕ} → told a ≡ n → answerNumber (h .answer) ≡ n
   number-is e = sym (ap told (h .reply)) ∙ e
 
-  asked-lists : told a ≡ 0 → (ids : List ℤ) × Hits w k ids × (a ≡ Listed 0 (length ids) (ids ++ drop (length ids) list))
+  asked-lists : told a ≡ 0 → (ids : List ℤ) × Hits w q ids × (a ≡ Listed 0 (length ids) (ids ++ drop (length ids) list))
   asked-lists e =
       let l = h .queried .accepted (number-is e) in
       (l .ids, l .hits, h .reply ∙ ap (λ n. Listed n (answerHits (h .answer)) (h .list′)) (number-is e) ∙ ap₂ (Listed 0) (l .hit-count) (l .written))
 
-  asked-counts : told a ≡ 10 → (ids : List ℤ) × Hits w k ids × (a ≡ Listed 10 (length ids) list)
+  asked-counts : told a ≡ 10 → (ids : List ℤ) × Hits w q ids × (a ≡ Listed 10 (length ids) list)
   asked-counts e =
       let c = h .queried .counted (number-is e) in
       let same = h .queried .unchanged (λ z. omega (arith, number-is e)) in
       (c .ids, c .hits, h .reply ∙ ap (λ n. Listed n (answerHits (h .answer)) (h .list′)) (number-is e) ∙ ap₂ (Listed 10) (c .hit-count) same)
 
-module _ {w : List ℤ} {k : Query} {list : List ℤ} {a : Reply} (v : List ℤ) where
-  pub query-lists : {c : Call} → IsQuery c k list → Happens w c a v → told a ≡ 0 → (ids : List ℤ) × Hits w k ids × (a ≡ Listed 0 (length ids) (ids ++ drop (length ids) list))
+module _ {w : List ℤ} {a : Reply} (v : List ℤ) where
+  pub query-lists : {c : Call} {q : Query} {list : List ℤ} → IsQuery c q list → Happens w c a v → told a ≡ 0 → (ids : List ℤ) × Hits w q ids × (a ≡ Listed 0 (length ids) (ids ++ drop (length ids) list))
   query-lists window h e = asked-lists h e
   query-lists moving h e = asked-lists h e
 
-  pub query-counts : {c : Call} → IsQuery c k list → Happens w c a v → told a ≡ 10 → (ids : List ℤ) × Hits w k ids × (a ≡ Listed 10 (length ids) list)
+  pub query-counts : {c : Call} {q : Query} {list : List ℤ} → IsQuery c q list → Happens w c a v → told a ≡ 10 → (ids : List ℤ) × Hits w q ids × (a ≡ Listed 10 (length ids) list)
   query-counts window h e = asked-counts h e
   query-counts moving h e = asked-counts h e
 
@@ -77,8 +77,8 @@ read-back small h room g =
     g .reply ∙ ap (λ (n : ℕ). Bytes n (writtenTotal (g .written)) (g .bytes′)) (back .0) ∙ ap₂ (Bytes 0) (back .1) (back .2)
 
 -- ---- replies in the numbers that a caller has
-pub asked-in-numbers : {w : List ℤ} {B : Type 0} {k : Query} {list : List ℤ} {r hits opened : ℤ} {list′ : List ℤ} → QueryGives w B k list r hits opened list′
-    → (n : ℕ) × (h : ℕ) × (r ≡ pos n) × (hits ≡ pos h) × WasAsked w B k list (Listed n h list′) w
+pub asked-in-numbers : {w : List ℤ} {B : Type 0} {q : Query} {list : List ℤ} {r hits opened : ℤ} {list′ : List ℤ} → QueryGives w B q list r hits opened list′
+    → (n : ℕ) × (h : ℕ) × (r ≡ pos n) × (hits ≡ pos h) × WasAsked w B q list (Listed n h list′) w
 asked-in-numbers {list′} g =
     let a = g .answer in
     let n = g .in-numbers in
@@ -92,8 +92,8 @@ wrote-in-numbers {bytes′} g =
     (writtenNumber a, writtenTotal a, n .number-is, n .total-is, record { written = a; bytes′ = bytes′; reply = refl; writes = g .writes; unchanged = refl })
 
 -- the count of opened nodes, which is no part of a reply
-pub opened-is : {w : List ℤ} {B : Type 0} {k : Query} {list : List ℤ} {r hits opened : ℤ} {list′ : List ℤ} → QueryGives w B k list r hits opened list′
-    → (r ≡ pos 0 → opened ≡ pos (length (openedNodes w k))) × ((r ≡ pos 0 → ⊥) → opened ≡ pos 0)
+pub opened-is : {w : List ℤ} {B : Type 0} {q : Query} {list : List ℤ} {r hits opened : ℤ} {list′ : List ℤ} → QueryGives w B q list r hits opened list′
+    → (r ≡ pos 0 → opened ≡ pos (length (openedNodes w q))) × ((r ≡ pos 0 → ⊥) → opened ≡ pos 0)
 opened-is g =
     let n = g .in-numbers in (
       λ e. n .opened-is ∙ ap pos (g .queried .accepted (ap natAbs (sym (n .number-is) ∙ e)) .opened-count),

@@ -1,27 +1,25 @@
 -- Two tables of one capacity and length that have the same clock and live cells give the same replies to every run of calls, and have the same clock and
 -- live cells after it.
 use mathlib.Core.Path.{_≡_, refl, sym, ap, ap₂, _∙_, subst}
-use mathlib.Core.Logic.{_↔_, Iff·rfl, inl, inr}
+use mathlib.Core.Logic.{_↔_, Iff·rfl}
 use mathlib.Core.List.{List, _∷_, _++_}
 use Prim.Native.Nat.{ℕ, _<_}
 use native.Mathlib.Decide.{ℕ-discrete}
 use native.Mathlib.Omega.{arith}
 use lib.IntN.{ℤ}
 use lib.ListN.{length, drop}
-use lib.Signed.{_≤ℤ_}
 use Rattle.leafing.specs.Laws.Search.{next-as}
-use Rattle.whole.specs.Laws.Order.{not-before}
 use Rattle.words.specs.Words.{natOf}
-use Rattle.track.specs.Refusals.{First}
 use Rattle.track.specs.Laws.Refusals.{first-fixed, first-as}
+use Rattle.track.specs.Query.{still}
 use Rattle.track.specs.declared.cell.Cell.{Cell}
+use Rattle.track.specs.declared.report.Report as track
 use Rattle.track.specs.declared.queries.Query.{Query}
 use Rattle.table.specs.Header.{capacityWord, clock, wordsFor}
 use Rattle.table.specs.Fresh.{freshReasons}
 use Rattle.table.specs.Sound.{Live}
-use Rattle.query.specs.Queried.{answerNumber, answerHits, reasons, Queried}
-use Rattle.query.specs.Laws.Queried.{hits-fixed, refused-hits}
-use Rattle.query.specs.Hits.{Hits}
+use Rattle.query.specs.Queried.{answerNumber, answerHits, Queried}
+use Rattle.query.specs.Laws.Queried.{refused-hits}
 use Rattle.query.specs.declared.answer.Answer.{Answer}
 use Rattle.leafing.specs.NextLive.{openingReasons}
 use Rattle.leafing.specs.Laws.NextLive.{steps-sound, steps-fixed}
@@ -30,7 +28,7 @@ use Rattle.sheet_write.specs.Laws.Written.{written-same}
 use Rattle.sheet_read.specs.Reads.{readReasons, IsRead}
 use Rattle.tree.specs.Steps.{outcomeNumber, ReportSteps}
 use Rattle.alike.specs.Alike.{Alike}
-use Rattle.alike.specs.Laws.Alike.{still-alike, hits-too, query-number, report-alike, drop-alike, fresh-alike, reports-change-places}
+use Rattle.alike.specs.Laws.Alike.{still-alike, query-number, same-found, report-alike, drop-alike, fresh-alike, reports-change-places}
 use Rattle.promises.specs.Happens.{Call, Fresh, Report, Drop, Window, Moving, Open, Leaf, Write, Read, Reply, Number, Listed, Given, Bytes, told, WasMade, WasReported, WasAsked, WasOpened, WasStepped, WasWritten, WasRead, Happens, Run, no-call, one-call}
 use Rattle.promises.specs.Model.{Model, Together, Start}
 use Rattle.promises.specs.Laws.Together.{read-together, start-together, run-together, call-size}
@@ -46,20 +44,10 @@ model-alike cells s t = record {
 }
 
 -- ---- a query
-module _ {w v : List ℤ} (a : Alike w v) (B : Type 0) (k : Query) (list : List ℤ) where
-  -- one whose number is none of 1, 4 and 5 starts at or after the clock
-  late : (n : ℕ) → (n ≡ 1 → ⊥) → (n ≡ 4 → ⊥) → (n ≡ 5 → ⊥) → First (reasons w B k list) n → clock w ≤ℤ k .start .at
-  late n p q r (inl h) = absurd (p (h .1))
-  late n p q r (inr (s, inl h)) = absurd (q (h .1))
-  late n p q r (inr (s, inr (o, inl h))) = absurd (r (h .1))
-  late n p q r (inr (s, inr (o, inr (l, h)))) = not-before l
-
-  module _ {r s : Answer} {list′ list″ : List ℤ} (p : Queried w B k list r list′) (q : Queried v B k list s list″) where
+module _ {w v : List ℤ} (a : Alike w v) (B : Type 0) (q : Query) (list : List ℤ) where
+  module _ {r s : Answer} {list′ list″ : List ℤ} (p : Queried w B q list r list′) (p′ : Queried v B q list s list″) where
     number-same : answerNumber r ≡ answerNumber s
-    number-same = query-number a B k (length list) (answerNumber r) (answerNumber s) (p .refusal) (q .refusal)
-
-    ids-same : (n : ℕ) → answerNumber r ≡ n → (n ≡ 1 → ⊥) → (n ≡ 4 → ⊥) → (n ≡ 5 → ⊥) → {ids jds : List ℤ} → Hits w k ids → Hits v k jds → ids ≡ jds
-    ids-same n e x y z h j = hits-fixed (hits-too a (late n x y z (subst (First (reasons w B k list)) e (p .refusal))) h) j
+    number-same = query-number a B q (length list) (answerNumber r) (answerNumber s) (p .refusal) (p′ .refusal)
 
     abbrev Same : Type 0
     Same = (answerNumber r ≡ answerNumber s) × (answerHits r ≡ answerHits s) × (list′ ≡ list″)
@@ -67,20 +55,20 @@ module _ {w v : List ℤ} (a : Alike w v) (B : Type 0) (k : Query) (list : List 
     listed : answerNumber r ≡ 0 → Same
     listed e =
         let l = p .accepted e in
-        let m = q .accepted (sym number-same ∙ e) in
-        let ids : l .ids ≡ m .ids = ids-same 0 e (λ x. omega arith) (λ x. omega arith) (λ x. omega arith) (l .hits) (m .hits) in
+        let m = p′ .accepted (sym number-same ∙ e) in
+        let ids : l .ids ≡ m .ids = same-found {B = B} {places = length list} a (λ x. omega arith) (λ x. omega arith) (λ x. omega arith) (p .refusal) (l .hits) (m .hits) in
         (number-same, l .hit-count ∙ ap length ids ∙ sym (m .hit-count), l .written ∙ ap (λ (ids : List ℤ). ids ++ drop (length ids) list) ids ∙ sym (m .written))
 
     counted : answerNumber r ≡ 10 → Same
     counted e =
         let l = p .counted e in
-        let m = q .counted (sym number-same ∙ e) in
-        let ids : l .ids ≡ m .ids = ids-same 10 e (λ x. omega arith) (λ x. omega arith) (λ x. omega arith) (l .hits) (m .hits) in
-        (number-same, l .hit-count ∙ ap length ids ∙ sym (m .hit-count), p .unchanged (λ z. omega arith) ∙ sym (q .unchanged (λ z. omega (arith, number-same))))
+        let m = p′ .counted (sym number-same ∙ e) in
+        let ids : l .ids ≡ m .ids = same-found {B = B} {places = length list} a (λ x. omega arith) (λ x. omega arith) (λ x. omega arith) (p .refusal) (l .hits) (m .hits) in
+        (number-same, l .hit-count ∙ ap length ids ∙ sym (m .hit-count), p .unchanged (λ z. omega arith) ∙ sym (p′ .unchanged (λ z. omega (arith, number-same))))
 
     refused : (answerNumber r ≡ 0 → ⊥) → (answerNumber r ≡ 10 → ⊥) → Same
     refused x y =
-        (number-same, refused-hits r x y ∙ sym (refused-hits s (λ z. x (number-same ∙ z)) (λ z. y (number-same ∙ z))), p .unchanged x ∙ sym (q .unchanged (λ z. x (number-same ∙ z))))
+        (number-same, refused-hits r x y ∙ sym (refused-hits s (λ z. x (number-same ∙ z)) (λ z. y (number-same ∙ z))), p .unchanged x ∙ sym (p′ .unchanged (λ z. x (number-same ∙ z))))
 
     queried-alike : Same
     queried-alike = by (ℕ-discrete (answerNumber r) 0) (ℕ-discrete (answerNumber r) 10)
@@ -90,11 +78,11 @@ module _ {w v : List ℤ} (a : Alike w v) (B : Type 0) (k : Query) (list : List 
         by (no x) (yes e) = counted e
         by (no x) (no y) = refused x y
 
-  asked-alike : {x y : Reply} {w′ v′ : List ℤ} → WasAsked w B k list x w′ → WasAsked v B k list y v′ → (x ≡ y) × Alike w′ v′
-  asked-alike p q =
-      let same = queried-alike (p .queried) (q .queried) in (
-        p .reply ∙ ap (λ (n : ℕ). Listed n (answerHits (p .answer)) (p .list′)) (same .0) ∙ ap₂ (Listed (answerNumber (q .answer))) (same .1) (same .2) ∙ sym (q .reply),
-        still-alike a (p .unchanged) (q .unchanged),
+  asked-alike : {x y : Reply} {w′ v′ : List ℤ} → WasAsked w B q list x w′ → WasAsked v B q list y v′ → (x ≡ y) × Alike w′ v′
+  asked-alike p p′ =
+      let same = queried-alike (p .queried) (p′ .queried) in (
+        p .reply ∙ ap (λ (n : ℕ). Listed n (answerHits (p .answer)) (p .list′)) (same .0) ∙ ap₂ (Listed (answerNumber (p′ .answer))) (same .1) (same .2) ∙ sym (p′ .reply),
+        still-alike a (p .unchanged) (p′ .unchanged),
       )
 
 -- ---- a step of the leafing looks at the live cells alone
@@ -162,15 +150,15 @@ module _ {w v : List ℤ} (a : Alike w v) (long : length w ≡ length v) (cells 
 
 -- ---- any call, and any run of calls
 pub call-alike : {w v : List ℤ} → Alike w v → length w ≡ length v → (c : Call) (x y : Reply) {w′ v′ : List ℤ} → Happens w c x w′ → Happens v c y v′ → (x ≡ y) × Alike w′ v′
-call-alike a long (Fresh cells) s t p q = made-alike a long cells p q
-call-alike a long (Report id x y vx vy minute expiry) s t p q = let r = report-alike a id minute (p .steps) (q .steps) in (p .reply ∙ ap Number (r .0) ∙ sym (q .reply), r .1)
-call-alike a long (Drop id minute) s t p q = let r = drop-alike a id minute (p .steps) (q .steps) in (p .reply ∙ ap Number (r .0) ∙ sym (q .reply), r .1)
-call-alike a long (Window k list) s t p q = asked-alike a _ k list p q
-call-alike a long (Moving k list) s t p q = asked-alike a _ k list p q
-call-alike a long Open s t p q = opened-alike a p q
-call-alike a long (Leaf last) s t p q = leafed-alike a p q
-call-alike a long (Write bytes) s t p q = wrote-alike a p q
-call-alike a long (Read cells bytes) s t p q = read-alike a long cells p q
+call-alike a long (Fresh cells) s t p p′ = made-alike a long cells p p′
+call-alike a long (Report r) s t p p′ = let both = report-alike a (p .steps) (p′ .steps) in (p .reply ∙ ap Number (both .0) ∙ sym (p′ .reply), both .1)
+call-alike a long (Drop id minute) s t p p′ = let both = drop-alike a (p .steps) (p′ .steps) in (p .reply ∙ ap Number (both .0) ∙ sym (p′ .reply), both .1)
+call-alike a long (Window q list) s t p p′ = asked-alike a _ (still q) list p p′
+call-alike a long (Moving q list) s t p p′ = asked-alike a _ q list p p′
+call-alike a long Open s t p p′ = opened-alike a p p′
+call-alike a long (Leaf last) s t p p′ = leafed-alike a p p′
+call-alike a long (Write bytes) s t p p′ = wrote-alike a p p′
+call-alike a long (Read cells bytes) s t p p′ = read-alike a long cells p p′
 
 pub run-alike : {w v : List ℤ} {calls : List Call} {xs ys : List Reply} {w′ v′ : List ℤ} → Alike w v → length w ≡ length v → Run w calls xs w′ → Run v calls ys v′ → (xs ≡ ys) × Alike w′ v′
 run-alike a long no-call no-call = (refl, a)
@@ -192,13 +180,12 @@ reached-alike start run start′ run′ cells clocks live = record {
 }
 
 -- by two reports that change places, and what comes after them
-report-done : {id x y vx vy minute expiry : ℤ} {w v : List ℤ} → WasReported w id x y vx vy minute expiry (Number 0) v → ReportSteps w id x y vx vy minute expiry 0 v
-report-done {id} {x} {y} {vx} {vy} {minute} {expiry} {w} {v} h = subst (λ (n : ℕ). ReportSteps w id x y vx vy minute expiry n v) (sym (ap told (h .reply))) (h .steps)
+report-done : {r : track.Report} {w v : List ℤ} → WasReported w r (Number 0) v → ReportSteps w r 0 v
+report-done {r} {w} {v} h = subst (λ (n : ℕ). ReportSteps w r n v) (sym (ap told (h .reply))) (h .steps)
 
-pub exchanged-alike : {minute i x y vx vy expiry j x′ y′ vx′ vy′ expiry′ : ℤ} {w u u′ : List ℤ} {further : List Call} {xs ys : List Reply} → (i ≡ j → ⊥)
-    → Run w (Report i x y vx vy minute expiry ∷ Report j x′ y′ vx′ vy′ minute expiry′ ∷ further) (Number 0 ∷ Number 0 ∷ xs) u
-    → Run w (Report j x′ y′ vx′ vy′ minute expiry′ ∷ Report i x y vx vy minute expiry ∷ further) (Number 0 ∷ Number 0 ∷ ys) u′ → (xs ≡ ys) × Alike u u′
-exchanged-alike differ (one-call {c = one} p (one-call {c = other} q run)) (one-call r (one-call s run′)) =
-    run-alike (reports-change-places differ (report-done p) (report-done q) (report-done r) (report-done s))
-    (call-size other (Number 0) q .as-long ∙ call-size one (Number 0) p .as-long ∙ sym (call-size one (Number 0) s .as-long ∙ call-size other (Number 0) r .as-long))
+pub exchanged-alike : {r s : track.Report} {w u u′ : List ℤ} {further : List Call} {xs ys : List Reply} → (r .id ≡ s .id → ⊥) → r .minute ≡ s .minute
+    → Run w (Report r ∷ Report s ∷ further) (Number 0 ∷ Number 0 ∷ xs) u → Run w (Report s ∷ Report r ∷ further) (Number 0 ∷ Number 0 ∷ ys) u′ → (xs ≡ ys) × Alike u u′
+exchanged-alike differ minute (one-call {c = one} p (one-call {c = other} q run)) (one-call p′ (one-call q′ run′)) =
+    run-alike (reports-change-places differ minute (report-done p) (report-done q) (report-done p′) (report-done q′))
+    (call-size other (Number 0) q .as-long ∙ call-size one (Number 0) p .as-long ∙ sym (call-size one (Number 0) q′ .as-long ∙ call-size other (Number 0) p′ .as-long))
     run run′

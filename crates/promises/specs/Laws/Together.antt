@@ -10,14 +10,14 @@ use lib.ListN.{length}
 use lib.Signed.{_≤ℤ_}
 use Rattle.whole.specs.Lists.{_∈_}
 use Rattle.whole.specs.Laws.Lists.{keep-in, in-keep}
-use Rattle.whole.specs.Laws.Order.{≤ℤ-trans, not-before}
+use Rattle.whole.specs.Laws.Order.{≤ℤ-trans}
 use Rattle.track.specs.Life.{LivesAt}
-use Rattle.track.specs.Refusals.{First}
-use Rattle.track.specs.Laws.Refusals.{none-holds, not-zero}
+use Rattle.track.specs.Laws.Refusals.{not-zero}
 use Rattle.track.specs.declared.cell.Cell.{Cell}
 use Rattle.table.specs.Header.{capacityWord, clock}
 use Rattle.table.specs.Fresh.{IsFresh}
-use Rattle.tree.specs.Steps.{outcomeNumber, Stays, Step, reportRefusals, dropRefusals}
+use Rattle.tree.specs.Steps.{outcomeNumber, Stays, Step}
+use Rattle.tree.specs.Laws.Steps.{report-late, drop-late}
 use Rattle.sheet_read.specs.Reads.{IsRead}
 use Rattle.promises.specs.Happens.{Call, Fresh, Report, Drop, Window, Moving, Open, Leaf, Write, Read, Reply, told, Happens, Run, no-call, one-call}
 use Rattle.promises.specs.Model.{Model, Together, fresh, ofSheet, differs, others, accepted, after, afterAll, Start, made, read, acceptedCapacity, capacityAfter, Sized}
@@ -69,14 +69,6 @@ module _ {m : Model} {w : List ℤ} (t : Together m w) {minute id : ℤ} (late :
     );
   }
 
--- ---- an accepted call comes at or after the clock
-report-late : {w : List ℤ} {id x y vx vy minute expiry : ℤ} {n : ℕ} → First (reportRefusals w id x y vx vy minute expiry) n → n ≡ 0 → clock w ≤ℤ minute
-report-late {w} {id} {x} {y} {vx} {vy} {minute} {expiry} {n} f e =
-    not-before (none-holds (reportRefusals w id x y vx vy minute expiry) n (not-zero 0, (not-zero 3, (not-zero 4, (not-zero 5, (not-zero 8, tt))))) f e .1 .1 .0)
-
-drop-late : {w : List ℤ} {id minute : ℤ} {n : ℕ} → First (dropRefusals w id minute) n → n ≡ 0 → clock w ≤ℤ minute
-drop-late {w} {id} {minute} {n} f e = not-before (none-holds (dropRefusals w id minute) n (not-zero 0, (not-zero 3, (not-zero 4, (not-zero 7, tt)))) f e .1 .1 .0)
-
 -- ---- where a run starts
 fresh-together : {cells : ℤ} {w v : List ℤ} → IsFresh cells w v → Together fresh v
 fresh-together f = record {
@@ -107,13 +99,13 @@ by-number c (suc n) t done refused = rw (refused (not-zero n)) t
 -- after each call table and model go together still
 pub call-together : {m : Model} {w : List ℤ} (c : Call) (a : Reply) {v : List ℤ} → Together m w → Happens w c a v → Together (after m c (told a)) v
 call-together (Fresh cells) a t h = rw (h .reply) (by-number (Fresh cells) (h .number) t (λ e. fresh-together (h .makes .accepted e)) (h .makes .refused))
-call-together (Report id x y vx vy minute expiry) a t h =
-    rw (h .reply) (by-number (Report id x y vx vy minute expiry) (h .number) t (λ e. report-together t (report-late (h .steps .refusal) e) (h .steps .accepted e)) (h .steps .refused))
+call-together (Report r) a t h =
+    rw (h .reply) (by-number (Report r) (h .number) t (λ e. report-together t (report-late (h .steps) e) (h .steps .accepted e)) (h .steps .refused))
 call-together (Drop id minute) a t h =
-    rw (h .reply) (by-number (Drop id minute) (h .number) t (λ e. drop-together t (drop-late (h .steps .refusal) e) (h .steps .accepted e)) (h .steps .refused))
+    rw (h .reply) (by-number (Drop id minute) (h .number) t (λ e. drop-together t (drop-late (h .steps) e) (h .steps .accepted e)) (h .steps .refused))
 call-together (Read cells bytes) a t h = rw (h .reply) (by-number (Read cells bytes) (outcomeNumber (h .outcome)) t (λ e. read-together (h .reads .accepted e)) (h .reads .refused))
-call-together (Window k list) a t h = by-number (Window k list) (told a) t (λ e. rw (h .unchanged) t) (λ n. h .unchanged)
-call-together (Moving k list) a t h = by-number (Moving k list) (told a) t (λ e. rw (h .unchanged) t) (λ n. h .unchanged)
+call-together (Window q list) a t h = by-number (Window q list) (told a) t (λ e. rw (h .unchanged) t) (λ n. h .unchanged)
+call-together (Moving q list) a t h = by-number (Moving q list) (told a) t (λ e. rw (h .unchanged) t) (λ n. h .unchanged)
 call-together Open a t h = by-number Open (told a) t (λ e. rw (h .unchanged) t) (λ n. h .unchanged)
 call-together (Leaf last) a t h = by-number (Leaf last) (told a) t (λ e. rw (h .unchanged) t) (λ n. h .unchanged)
 call-together (Write bytes) a t h = by-number (Write bytes) (told a) t (λ e. rw (h .unchanged) t) (λ n. h .unchanged)
@@ -137,13 +129,13 @@ size-by c (suc n) done refused = same-size (refused (not-zero n))
 pub call-size : {w : List ℤ} (c : Call) (a : Reply) {v : List ℤ} → Happens w c a v → Sized w v (capacityAfter (capacityWord w) c (told a))
 call-size (Fresh cells) a h =
     rw (h .reply) (size-by (Fresh cells) (h .number) (λ e. let f = h .makes .accepted e in record { as-long = f .as-long; capacity-is = f .capacity-is }) (h .makes .refused))
-call-size (Report id x y vx vy minute expiry) a h = rw (h .reply) (size-by (Report id x y vx vy minute expiry) (h .number) (λ e. step-size (h .steps .accepted e)) (h .steps .refused))
+call-size (Report r) a h = rw (h .reply) (size-by (Report r) (h .number) (λ e. step-size (h .steps .accepted e)) (h .steps .refused))
 call-size (Drop id minute) a h = rw (h .reply) (size-by (Drop id minute) (h .number) (λ e. step-size (h .steps .accepted e)) (h .steps .refused))
 call-size (Read cells bytes) a h =
     rw (h .reply)
     (size-by (Read cells bytes) (outcomeNumber (h .outcome)) (λ e. let r = h .reads .accepted e in record { as-long = r .as-long; capacity-is = r .capacity-is }) (h .reads .refused))
-call-size (Window k list) a h = size-by (Window k list) (told a) (λ e. same-size (h .unchanged)) (λ n. h .unchanged)
-call-size (Moving k list) a h = size-by (Moving k list) (told a) (λ e. same-size (h .unchanged)) (λ n. h .unchanged)
+call-size (Window q list) a h = size-by (Window q list) (told a) (λ e. same-size (h .unchanged)) (λ n. h .unchanged)
+call-size (Moving q list) a h = size-by (Moving q list) (told a) (λ e. same-size (h .unchanged)) (λ n. h .unchanged)
 call-size Open a h = size-by Open (told a) (λ e. same-size (h .unchanged)) (λ n. h .unchanged)
 call-size (Leaf last) a h = size-by (Leaf last) (told a) (λ e. same-size (h .unchanged)) (λ n. h .unchanged)
 call-size (Write bytes) a h = size-by (Write bytes) (told a) (λ e. same-size (h .unchanged)) (λ n. h .unchanged)

@@ -9,5 +9,5 @@ use Rattle.query.specs.Opened.{entryMeets?, onlyIf}
 
 -- the leaf entries found through an entry of a node that has h levels beneath it
 unfoldable pub foundBy : Nodes → Query → ℕ → Entry → List Entry
-foundBy N k zero e = onlyIf (entryMeets? k true e) (e ∷ [])
-foundBy N k (suc h) e = onlyIf (entryMeets? k false e) (flatMap (foundBy N k h) (N (childOf e)))
+foundBy N q zero e = onlyIf (entryMeets? q true e) (e ∷ [])
+foundBy N q (suc h) e = onlyIf (entryMeets? q false e) (flatMap (foundBy N q h) (N (childOf e)))

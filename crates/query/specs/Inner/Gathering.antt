@@ -14,13 +14,13 @@ use Rattle.query.specs.Hits.{Hits}
 use Rattle.query.specs.declared.answer.Found.{Found}
 
 -- a sound table may be asked the query
-pub record CanAsk (w : List ℤ) (k : Query) : Type 0 where
+pub record CanAsk (w : List ℤ) (q : Query) : Type 0 where
   pub sound : Sound w
-  pub query-in : QueryInRange k
-  pub due : clock w ≤ℤ k .start .at
+  pub query-in : QueryInRange q
+  pub due : clock w ≤ℤ q .start .at
 
 -- the first keys are the hits
-pub record Gathered (w : List ℤ) (k : Query) (r : Found) (keys : List ℕ) : Type 0 where
-  pub opened : r .opened ≡ length (openedNodes w k)
+pub record Gathered (w : List ℤ) (q : Query) (r : Found) (keys : List ℕ) : Type 0 where
+  pub opened : r .opened ≡ length (openedNodes w q)
   pub inside : r .hits ≤ length keys
-  pub hits : Hits w k (map pos (take (r .hits) keys))
+  pub hits : Hits w q (map pos (take (r .hits) keys))

@@ -1,4 +1,4 @@
--- The loop that writes the hits to the list.
+-- When the hits can be written to the list.
 use mathlib.Core.List.{List}
 use Prim.Native.Nat.{ℕ, _^_, _≤_, _<_}
 use lib.IntN.{ℤ}

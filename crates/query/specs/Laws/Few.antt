@@ -32,20 +32,20 @@ module _ {w : List ℤ} (s : Sound w) where
   few-held : length (held w) ≤ greatestCapacity
   few-held = omega (arith, s .few-cells, capacity-low (s .capacity-in))
 
-  hits-few : {k : Query} {ids : List ℤ} → Hits w k ids → length ids ≤ greatestCapacity
-  hits-few {k} {ids} h = omega (arith, few-held, length-map (held w) identifier, no-repeat-fits (<ℤ-no-repeat (h .rising)) ids-held)
+  hits-few : {q : Query} {ids : List ℤ} → Hits w q ids → length ids ≤ greatestCapacity
+  hits-few {q} {ids} h = omega (arith, few-held, length-map (held w) identifier, no-repeat-fits (<ℤ-no-repeat (h .rising)) ids-held)
     where
       ids-held : (id : ℤ) → id ∈ ids → id ∈ map identifier (held w)
       ids-held id m = let hit = h .only id m in subst (λ (z : ℤ). z ∈ map identifier (held w)) (hit .has-id) (Memᴰ·map identifier (hit .is-held))
 
-  opened-few : (k : Query) → length (openedNodes w k) ≤ nodesFor greatestCapacity
-  opened-few k =
+  opened-few : (q : Query) → length (openedNodes w q) ≤ nodesFor greatestCapacity
+  opened-few q =
       let leaves = leavesOf (entriesAt w) (height w) (root w) in
       omega (
         arith,
         few-held,
         length-map leaves cellOf,
-        opened-less (entriesAt w) k (height w) (root w),
+        opened-less (entriesAt w) q (height w) (root w),
         few-nodes (entriesAt w) (capacity w) (clock w) (height w) (root w) (s .tree),
       )
 
@@ -53,25 +53,25 @@ module _ {w : List ℤ} (s : Sound w) where
 ≤-stable : {m n : ℕ} → ((m ≤ n → ⊥) → ⊥) → m ≤ n
 ≤-stable {m} {n} = dec-stable (decLe m n)
 
-module _ {w : List ℤ} {Backward : Type 0} {k : Query} {list : List ℤ} where
+module _ {w : List ℤ} {Backward : Type 0} {q : Query} {list : List ℤ} where
   -- an answer other than 1 is of a sound table
-  not-unsound : {r : Answer} {list′ : List ℤ} → Queried w Backward k list r list′ → (answerNumber r ≡ 1 → ⊥) → (Sound w → ⊥) → ⊥
-  not-unsound {r} q other u = by (q .refusal)
+  not-unsound : {r : Answer} {list′ : List ℤ} → Queried w Backward q list r list′ → (answerNumber r ≡ 1 → ⊥) → (Sound w → ⊥) → ⊥
+  not-unsound {r} p other u = by (p .refusal)
     where
-      by : First (reasons w Backward k list) (answerNumber r) → ⊥
+      by : First (reasons w Backward q list) (answerNumber r) → ⊥
       by (inl h) = other (h .1)
       by (inr h) = h .0 u
 
-  pub answer-few : {r : Answer} {list′ : List ℤ} → Queried w Backward k list r list′ → Few r
-  answer-few {r = Listed f} q =
-      let sound = not-unsound q (λ e. omega arith) in
-      let l = q .accepted refl in
+  pub answer-few : {r : Answer} {list′ : List ℤ} → Queried w Backward q list r list′ → Few r
+  answer-few {r = Listed f} p =
+      let sound = not-unsound p (λ e. omega arith) in
+      let l = p .accepted refl in
       record {
         few-hits = rw (l .hit-count) (≤-stable (λ many. sound (λ s. many (hits-few s (l .hits)))));
-        few-opened = rw (l .opened-count) (≤-stable (λ many. sound (λ s. many (opened-few s k))));
+        few-opened = rw (l .opened-count) (≤-stable (λ many. sound (λ s. many (opened-few s q))));
       }
-  answer-few {r = TooMany n} q =
-      let sound = not-unsound q (λ e. omega arith) in
-      let l = q .counted refl in
+  answer-few {r = TooMany n} p =
+      let sound = not-unsound p (λ e. omega arith) in
+      let l = p .counted refl in
       record { few-hits = rw (l .hit-count) (≤-stable (λ many. sound (λ s. many (hits-few s (l .hits))))); few-opened = omega arith }
-  answer-few {r = Refused x} q = record { few-hits = omega arith; few-opened = omega arith }
+  answer-few {r = Refused x} p = record { few-hits = omega arith; few-opened = omega arith }

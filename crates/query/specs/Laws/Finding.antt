@@ -19,7 +19,7 @@ use Rattle.query.specs.Inner.Finding.{foundBy}
 
 -- those found from node i
 abbrev pub foundIn : Nodes → Query → ℕ → ℕ → List Entry
-foundIn N k h i = flatMap (foundBy N k h) (N i)
+foundIn N q h i = flatMap (foundBy N q h) (N i)
 
 -- ---- a list that is there only if a fact holds
 module _ {P : Type 0} {A : Type 0} where
@@ -40,29 +40,29 @@ module _ {P : Type 0} {A : Type 0} where
   in-only (no n) h m = absurd (n h)
 
 -- ---- all that is found meets, and is there
-module _ (N : Nodes) (k : Query) where
-  pub found-meets : (h i : ℕ) {f : Entry} → f ∈ foundIn N k h i → f ∈ leavesOf N h i × CellMeets (cellOf f) k
+module _ (N : Nodes) (q : Query) where
+  pub found-meets : (h i : ℕ) {f : Entry} → f ∈ foundIn N q h i → f ∈ leavesOf N h i × CellMeets (cellOf f) q
   unfolding foundBy leavesOf boundsOf untilOf cellOf
   found-meets zero i m =
-      let r = flat-in (foundBy N k zero) (N i) m in
-      let o = only-in (entryMeets? k true (r .0)) (r .2) in
+      let r = flat-in (foundBy N q zero) (N i) m in
+      let o = only-in (entryMeets? q true (r .0)) (r .2) in
       let e = List·Memᴰ·eq-of-singleton (o .1) in
       rw e (r .1, o .0)
   found-meets (suc h) i m =
-      let r = flat-in (foundBy N k (suc h)) (N i) m in
-      let o = only-in (entryMeets? k false (r .0)) (r .2) in
+      let r = flat-in (foundBy N q (suc h)) (N i) m in
+      let o = only-in (entryMeets? q false (r .0)) (r .2) in
       let below = found-meets h (childOf (r .0)) (o .1) in
       (leaf-up N h i (r .1) (below .0), below .1)
 
   -- ---- and all that meets is found, where the tree is sound and the query does not start before the clock
-  module _ (cells : ℕ) (clock : ℤ) (due : clock ≤ℤ k .start .at) where
-    pub meets-found : (h i : ℕ) {f : Entry} → TreeSound N cells clock h i → f ∈ leavesOf N h i → CellMeets (cellOf f) k → f ∈ foundIn N k h i
+  module _ (cells : ℕ) (clock : ℤ) (due : clock ≤ℤ q .start .at) where
+    pub meets-found : (h i : ℕ) {f : Entry} → TreeSound N cells clock h i → f ∈ leavesOf N h i → CellMeets (cellOf f) q → f ∈ foundIn N q h i
     unfolding foundBy leavesOf boundsOf untilOf cellOf TreeSound
-    meets-found zero i {f} tree m met = in-flat (foundBy N k zero) m (in-only (entryMeets? k true f) met (List·Memᴰ·head refl))
+    meets-found zero i {f} tree m met = in-flat (foundBy N q zero) m (in-only (entryMeets? q true f) met (List·Memᴰ·head refl))
     meets-found (suc h) i tree m met =
         let r = leaf-down N h i m in
-        let meets = covers-cell N cells clock k due h i tree (r .1) (r .2) met in
-        in-flat (foundBy N k (suc h)) (r .1) (in-only (entryMeets? k false (r .0)) meets (meets-found h (childOf (r .0)) (below h i tree (r .1)) (r .2) met))
+        let meets = covers-cell N cells clock q due h i tree (r .1) (r .2) met in
+        in-flat (foundBy N q (suc h)) (r .1) (in-only (entryMeets? q false (r .0)) meets (meets-found h (childOf (r .0)) (below h i tree (r .1)) (r .2) met))
       where
         below : (h i : ℕ) {e : Entry} → TreeSound N cells clock (suc h) i → e ∈ N i → TreeSound N cells clock h (childOf e)
         below h i {e} tree m = tree e m .1
@@ -95,20 +95,20 @@ flat-none B [] = refl
 flat-none B (x ∷ l) = flat-none B l
 
 -- no more is found than there is, by any such measure, and no more nodes are opened than are reached
-module _ (N : Nodes) (k : Query) where
-  pub found-less : {size : List Entry → ℕ} → Adds size → (h i : ℕ) → size (foundIn N k h i) ≤ size (leavesOf N h i)
+module _ (N : Nodes) (q : Query) where
+  pub found-less : {size : List Entry → ℕ} → Adds size → (h i : ℕ) → size (foundIn N q h i) ≤ size (leavesOf N h i)
   unfolding foundBy leavesOf
   found-less {size} a zero i =
-      let less = flat-less (foundBy N k zero) (λ e. e ∷ []) a (λ e. only-less (entryMeets? k true e) a (e ∷ [])) (N i) in
+      let less = flat-less (foundBy N q zero) (λ e. e ∷ []) a (λ e. only-less (entryMeets? q true e) a (e ∷ [])) (N i) in
       rw flat-single at less
   found-less {size} a (suc h) i =
-      flat-less (foundBy N k (suc h)) (λ e. leavesOf N h (childOf e)) a
-      (λ e. omega (arith, only-less (entryMeets? k false e) a (foundIn N k h (childOf e)), found-less a h (childOf e))) (N i)
+      flat-less (foundBy N q (suc h)) (λ e. leavesOf N h (childOf e)) a
+      (λ e. omega (arith, only-less (entryMeets? q false e) a (foundIn N q h (childOf e)), found-less a h (childOf e))) (N i)
 
-  pub opened-less : (h i : ℕ) → length (openedIn N k h i) ≤ length (nodesOf N h i)
+  pub opened-less : (h i : ℕ) → length (openedIn N q h i) ≤ length (nodesOf N h i)
   unfolding openedBy nodesOf
   opened-less zero i = omega (arith, flat-none ℕ (N i))
   opened-less (suc h) i =
-      let less = flat-less (openedBy N k (suc h)) (λ e. nodesOf N h (childOf e)) length-adds
-      (λ e. omega (arith, only-less (entryMeets? k false e) length-adds (openedIn N k h (childOf e)), opened-less h (childOf e))) (N i) in
+      let less = flat-less (openedBy N q (suc h)) (λ e. nodesOf N h (childOf e)) length-adds
+      (λ e. omega (arith, only-less (entryMeets? q false e) length-adds (openedIn N q h (childOf e)), opened-less h (childOf e))) (N i) in
       omega arith

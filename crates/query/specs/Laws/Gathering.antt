@@ -25,9 +25,10 @@ use Rattle.node.specs.Entry.{Entry, cellOf}
 use Rattle.table.specs.Header.{capacity, clock, root, height, greatestCapacity, entriesAt}
 use Rattle.table.specs.Laws.Header.{capacity-low}
 use Rattle.table.specs.SoundTree.{leavesOf}
-use Rattle.table.specs.Inner.Scan.{keyOf, leaves-in, sound-in}
-use Rattle.table.specs.Laws.ScanParts.{node-in-table}
-use Rattle.table.specs.Inner.SoundBy.{cells-in, keys-once}
+use Rattle.table.specs.Inner.Scan.{keyOf}
+use Rattle.table.specs.Laws.Scan.{leaves-in, sound-in}
+use Rattle.table.specs.Laws.Walk.{walk-from-root}
+use Rattle.table.specs.Laws.SoundBy.{cells-in, keys-once}
 use Rattle.table.specs.Laws.Counts.{few-nodes}
 use Rattle.query.specs.Hits.{Hit, Hits}
 use Rattle.query.specs.Laws.Finding.{foundIn, found-meets, meets-found, Adds, found-less, opened-less, length-adds}
@@ -49,12 +50,12 @@ key-times-adds : (x : ℕ) → Adds (λ (l : List Entry). times x (map keyOf l))
 unfolding times
 key-times-adds x = record { none = refl; append = λ l m. ap (times x) (map-append keyOf l m) ∙ times-append x (map keyOf l) (map keyOf m) }
 
-module _ {w : List ℤ} {k : Query} (a : CanAsk w k) where
+module _ {w : List ℤ} {q : Query} (a : CanAsk w q) where
   abbrev leaves : List Entry
   leaves = leavesOf (entriesAt w) (height w) (root w)
 
   abbrev found : List Entry
-  found = foundIn (entriesAt w) k (height w) (root w)
+  found = foundIn (entriesAt w) q (height w) (root w)
 
   in-range : (e : Entry) → e ∈ leaves → CellInRange (cellOf e)
   in-range e m =
@@ -66,33 +67,31 @@ module _ {w : List ℤ} {k : Query} (a : CanAsk w k) where
   few-leaves : length leaves ≤ greatestCapacity
   few-leaves = omega (arith, a .sound .few-cells, length-map leaves cellOf, capacity-low (a .sound .capacity-in))
 
-  pub can-open-root : (keys : List ℕ) (h i : ℕ) → h ≡ height w → i ≡ root w → greatestCapacity ≤ length keys → CanOpen w k h i 0 keys onlyRoot
+  pub can-open-root : (keys : List ℕ) (h i : ℕ) → h ≡ height w → i ≡ root w → greatestCapacity ≤ length keys → CanOpen w q h i 0 keys onlyRoot
   can-open-root keys h i eh ei room =
       rw (eh, ei)
       (record {
         query-in = a .query-in;
-        long-enough = a .sound .long-enough;
-        in-table = node-in-table w (capacity w) (root w) _ (a .sound .long-enough) (a .sound .root-in) refl;
-        tree = a .sound .tree;
-        room = omega (arith, few-leaves, found-less (entriesAt w) k length-adds (height w) (root w));
-        few-opened = omega (arith, few-leaves, opened-less (entriesAt w) k (height w) (root w), few-nodes (entriesAt w) (capacity w) (clock w) (height w) (root w) (a .sound .tree));
+        walk = walk-from-root (a .sound) (height w) (root w) refl refl;
+        room = omega (arith, few-leaves, found-less (entriesAt w) q length-adds (height w) (root w));
+        few-opened = omega (arith, few-leaves, opened-less (entriesAt w) q (height w) (root w), few-nodes (entriesAt w) (capacity w) (clock w) (height w) (root w) (a .sound .tree));
       })
 
   -- ---- the keys
   keys-once-found : NoRepeat (map keyOf found)
   keys-once-found =
       let once = keys-once leaves in-range (a .sound .identifiers-once) in
-      times-no-repeat (map keyOf found) (λ x. omega (arith, no-repeat-times once x, found-less (entriesAt w) k (key-times-adds x) (height w) (root w)))
+      times-no-repeat (map keyOf found) (λ x. omega (arith, no-repeat-times once x, found-less (entriesAt w) q (key-times-adds x) (height w) (root w)))
 
   id-is : (e : Entry) → e ∈ leaves → pos (keyOf e) ≡ cellOf e .id
   id-is e m = pos-natOf (cellOf e .id) (≤ℤ-trans (leZ-yes tt) (in-range e m .identifier .from))
 
   module _ {keys : List ℕ} (s : Sorted (map keyOf found) keys) where
-    hit-of : (id : ℤ) → id ∈ map pos keys → Hit w k id
+    hit-of : (id : ℤ) → id ∈ map pos keys → Hit w q id
     hit-of id m =
         let key = Memᴰ·of-map pos keys m in
         let e = Memᴰ·of-map keyOf found (sorted-only s (key .0) (key .1)) in
-        let met = found-meets (entriesAt w) k (height w) (root w) (e .1) in
+        let met = found-meets (entriesAt w) q (height w) (root w) (e .1) in
         record {
           cell = cellOf (e .0);
           is-held = Memᴰ·map cellOf (met .0);
@@ -100,23 +99,23 @@ module _ {w : List ℤ} {k : Query} (a : CanAsk w k) where
           meets = met .1;
         }
 
-    of-hit : (id : ℤ) → Hit w k id → id ∈ map pos keys
+    of-hit : (id : ℤ) → Hit w q id → id ∈ map pos keys
     of-hit id h =
         let e = Memᴰ·of-map cellOf leaves (h .is-held) in
-        let met = subst (λ (c : Cell). CellMeets c k) (sym (e .2)) (h .meets) in
-        let m = meets-found (entriesAt w) k (capacity w) (clock w) (a .due) (height w) (root w) (a .sound .tree) (e .1) met in
+        let met = subst (λ (c : Cell). CellMeets c q) (sym (e .2)) (h .meets) in
+        let m = meets-found (entriesAt w) q (capacity w) (clock w) (a .due) (height w) (root w) (a .sound .tree) (e .1) met in
         let is : pos (keyOf (e .0)) ≡ id = id-is (e .0) (e .1) ∙ ap (λ (c : Cell). c .id) (e .2) ∙ h .has-id in
         subst (λ (z : ℤ). z ∈ map pos keys) is (Memᴰ·map pos (sorted-has s (keyOf (e .0)) (Memᴰ·map keyOf m)))
 
-    sorted-hits : Hits w k (map pos keys)
+    sorted-hits : Hits w q (map pos keys)
     sorted-hits = record { rising = rising-pos (sorted-rises s .0 keys-once-found); only = hit-of; all = of-hit }
 
   -- ---- the walk from the root, and its keys sorted in place
-  module _ {keys : List ℕ} {r : Found} {keys₁ : List ℕ} (o : OpensEntries (entriesAt w) k (height w) (entriesAt w (root w)) keys onlyRoot r keys₁) (room : greatestCapacity ≤ length keys) where
+  module _ {keys : List ℕ} {r : Found} {keys₁ : List ℕ} (o : OpensEntries (entriesAt w) q (height w) (entriesAt w (root w)) keys onlyRoot r keys₁) (room : greatestCapacity ≤ length keys) where
     pub hits-inside : r .hits ≤ length keys₁
-    hits-inside = omega (arith, o .hits, o .keys-kept, few-leaves, found-less (entriesAt w) k length-adds (height w) (root w))
+    hits-inside = omega (arith, o .hits, o .keys-kept, few-leaves, found-less (entriesAt w) q length-adds (height w) (root w))
 
-    pub gathered-sorted : {sorted : List ℕ} → Sorted (take (r .hits) keys₁) sorted → Gathered w k r (sorted ++ drop (r .hits) keys₁)
+    pub gathered-sorted : {sorted : List ℕ} → Sorted (take (r .hits) keys₁) sorted → Gathered w q r (sorted ++ drop (r .hits) keys₁)
     gathered-sorted {sorted} s =
         record {
           opened = omega (arith, o .opened);
@@ -125,7 +124,7 @@ module _ {w : List ℤ} {k : Query} (a : CanAsk w k) where
         }
 
   -- ---- an identifier is a word
-  pub key-small : {r : Found} {keys : List ℕ} → Gathered w k r keys → (i : ℕ) → i < r .hits → getD keys i 0 < 2 ^ 31
+  pub key-small : {r : Found} {keys : List ℕ} → Gathered w q r keys → (i : ℕ) → i < r .hits → getD keys i 0 < 2 ^ 31
   key-small {r} {keys} g i lt =
       let at = at-in (take (r .hits) keys) i 0 (omega (arith, length-take-le (r .hits) keys (g .inside))) in
       let h = g .hits .only (pos (getD (take (r .hits) keys) i 0)) (Memᴰ·map pos at) in

@@ -6,18 +6,16 @@ use Prim.Native.Nat.{ℕ, zero, suc, _+_, _-_, _^_, _≤_, _<_}
 use native.Mathlib.Numerals.{add-one, sub-one}
 use native.Mathlib.Omega.{arith}
 use lib.IntN.{ℤ}
-use lib.ListN.{length, set, take, drop, length-append, length-set, drop-of-length-le}
+use lib.ListN.{length, set, take, drop, length-append, length-set}
 use lib.Seq.{take-suc-set}
-use Rattle.whole.specs.Lists.{_∈_}
 use Rattle.words.specs.Layout.{nodeAt, entryAt}
 use Rattle.track.specs.Laws.Refusals.{not-zero}
 use Rattle.track.specs.declared.queries.Query.{Query}
-use Rattle.node.specs.Entry.{Entry, childWord, childOf, entryCount, entriesOf}
-use Rattle.node.specs.Laws.Entry.{entry-in, entries-next, length-entriesOf}
+use Rattle.node.specs.Entry.{Entry, childOf, entryCount}
 use Rattle.table.specs.Header.{capacity, clock, entriesAt}
-use Rattle.table.specs.SoundTree.{Nodes, isLeaf, EntrySound, TreeSound}
+use Rattle.table.specs.SoundTree.{Nodes, isLeaf, TreeSound}
 use Rattle.table.specs.Inner.Scan.{keyOf}
-use Rattle.table.specs.Laws.ScanParts.{node-in-table}
+use Rattle.table.specs.Laws.Walk.{entry-left, entry-of, walk-to-child}
 use Rattle.table.specs.Laws.Edges.{edges-in, until-in, leaf-edges-in, leaf-until-in}
 use Rattle.query.specs.Opened.{EntryMeets, entryMeets?, openedBy}
 use Rattle.query.specs.Inner.Finding.{foundBy}
@@ -33,184 +31,158 @@ abbrev pub oneNode : Found → Found
 oneNode f = record { hits = f .hits; opened = f .opened + 1 }
 
 -- ---- what is found and opened through one entry
-module _ (N : Nodes) (k : Query) where
+module _ (N : Nodes) (q : Query) where
   record Leads (h : ℕ) (d : Entry) (found : List Entry) (opened : List ℕ) : Type 0 where
-    by-found : foundBy N k h d ≡ found
-    by-opened : openedBy N k h d ≡ opened
+    by-found : foundBy N q h d ≡ found
+    by-opened : openedBy N q h d ≡ opened
 
-  leads-nowhere : (h : ℕ) (d : Entry) → (EntryMeets k (isLeaf h) d → ⊥) → Leads h d [] []
+  leads-nowhere : (h : ℕ) (d : Entry) → (EntryMeets q (isLeaf h) d → ⊥) → Leads h d [] []
   unfolding foundBy openedBy
-  leads-nowhere zero d n = record { by-found = only-no (entryMeets? k true d) _ n; by-opened = refl }
-  leads-nowhere (suc h) d n = record { by-found = only-no (entryMeets? k false d) _ n; by-opened = only-no (entryMeets? k false d) _ n }
+  leads-nowhere zero d n = record { by-found = only-no (entryMeets? q true d) _ n; by-opened = refl }
+  leads-nowhere (suc h) d n = record { by-found = only-no (entryMeets? q false d) _ n; by-opened = only-no (entryMeets? q false d) _ n }
 
-  leads-cell : (h : ℕ) (d : Entry) → h ≡ 0 → EntryMeets k (isLeaf h) d → Leads h d (d ∷ []) []
+  leads-cell : (h : ℕ) (d : Entry) → h ≡ 0 → EntryMeets q (isLeaf h) d → Leads h d (d ∷ []) []
   unfolding foundBy openedBy
-  leads-cell zero d z m = record { by-found = only-yes (entryMeets? k true d) _ m; by-opened = refl }
+  leads-cell zero d z m = record { by-found = only-yes (entryMeets? q true d) _ m; by-opened = refl }
   leads-cell (suc h) d z m = not-zero h z
 
   -- in the code's words: the height is not 0, and the child's is one less
-  leads-child : (h : ℕ) (d : Entry) → (h ≡ 0 → ⊥) → EntryMeets k (isLeaf h) d → Leads h d (foundFrom N k (h - 1) (N (childOf d))) (childOf d ∷ openedFrom N k (h - 1) (N (childOf d)))
+  leads-child : (h : ℕ) (d : Entry) → (h ≡ 0 → ⊥) → EntryMeets q (isLeaf h) d → Leads h d (foundFrom N q (h - 1) (N (childOf d))) (childOf d ∷ openedFrom N q (h - 1) (N (childOf d)))
   unfolding foundBy openedBy
   leads-child zero d z m = absurd (z refl)
-  leads-child (suc h) d z m = rw (sub-one (suc h)) (record { by-found = only-yes (entryMeets? k false d) _ m; by-opened = only-yes (entryMeets? k false d) _ m })
+  leads-child (suc h) d z m = rw (sub-one (suc h)) (record { by-found = only-yes (entryMeets? q false d) _ m; by-opened = only-yes (entryMeets? q false d) _ m })
 
   module _ {h : ℕ} {d : Entry} {found : List Entry} {opened : List ℕ} (l : Leads h d found opened) (ds : List Entry) where
-    found-cons : foundFrom N k h (d ∷ ds) ≡ found ++ foundFrom N k h ds
+    found-cons : foundFrom N q h (d ∷ ds) ≡ found ++ foundFrom N q h ds
     unfolding flatMap
-    found-cons = ap (λ (fs : List Entry). fs ++ foundFrom N k h ds) (l .by-found)
+    found-cons = ap (λ (fs : List Entry). fs ++ foundFrom N q h ds) (l .by-found)
 
-    found-length : length (foundFrom N k h (d ∷ ds)) ≡ length found + length (foundFrom N k h ds)
-    found-length = ap length found-cons ∙ length-append found (foundFrom N k h ds)
+    found-length : length (foundFrom N q h (d ∷ ds)) ≡ length found + length (foundFrom N q h ds)
+    found-length = ap length found-cons ∙ length-append found (foundFrom N q h ds)
 
-    opened-length : length (openedFrom N k h (d ∷ ds)) ≡ length opened + length (openedFrom N k h ds)
+    opened-length : length (openedFrom N q h (d ∷ ds)) ≡ length opened + length (openedFrom N q h ds)
     unfolding flatMap
-    opened-length = ap (λ (js : List ℕ). length (js ++ openedFrom N k h ds)) (l .by-opened) ∙ length-append opened (openedFrom N k h ds)
+    opened-length = ap (λ (js : List ℕ). length (js ++ openedFrom N q h ds)) (l .by-opened) ∙ length-append opened (openedFrom N q h ds)
 
 -- ---- the ways through the code, and what each leaves
-module _ {N : Nodes} {k : Query} {h : ℕ} {es : List Entry} {keys : List ℕ} {f : Found} where
-  pub opens-none : es ≡ [] → OpensEntries N k h es keys f f keys
+module _ {N : Nodes} {q : Query} {h : ℕ} {es : List Entry} {keys : List ℕ} {f : Found} where
+  pub opens-none : es ≡ [] → OpensEntries N q h es keys f f keys
   unfolding flatMap
   opens-none e = rw e (record { hits = omega arith; opened = omega arith; keys-kept = refl; gathered = sym (append-nil (take (f .hits) keys)) })
 
   module _ {d : Entry} {ds : List Entry} (e : es ≡ d ∷ ds) {r : Found} {keys′ : List ℕ} where
-    pub opens-miss : (EntryMeets k (isLeaf h) d → ⊥) → OpensEntries N k h ds keys f r keys′ → OpensEntries N k h es keys f r keys′
+    pub opens-miss : (EntryMeets q (isLeaf h) d → ⊥) → OpensEntries N q h ds keys f r keys′ → OpensEntries N q h es keys f r keys′
     opens-miss n o =
-        let l = leads-nowhere N k h d n in
+        let l = leads-nowhere N q h d n in
         rw e (record {
-          hits = omega (arith, o .hits, found-length N k l ds);
-          opened = omega (arith, o .opened, opened-length N k l ds);
+          hits = omega (arith, o .hits, found-length N q l ds);
+          opened = omega (arith, o .opened, opened-length N q l ds);
           keys-kept = o .keys-kept;
-          gathered = o .gathered ∙ rw (found-cons N k l ds);
+          gathered = o .gathered ∙ rw (found-cons N q l ds);
         })
 
     -- the key v goes to the first place that is free
-    pub opens-hit : {v : ℕ} → v ≡ keyOf d → h ≡ 0 → EntryMeets k (isLeaf h) d → f .hits < length keys → OpensEntries N k h ds (set keys (f .hits) v) (oneHit f) r keys′
-        → OpensEntries N k h es keys f r keys′
+    pub opens-hit : {v : ℕ} → v ≡ keyOf d → h ≡ 0 → EntryMeets q (isLeaf h) d → f .hits < length keys → OpensEntries N q h ds (set keys (f .hits) v) (oneHit f) r keys′
+        → OpensEntries N q h es keys f r keys′
     opens-hit {v} is-key z m lt o =
-        let l = leads-cell N k h d z m in
+        let l = leads-cell N q h d z m in
         rw e (record {
-          hits = omega (arith, o .hits, found-length N k l ds);
-          opened = omega (arith, o .opened, opened-length N k l ds);
+          hits = omega (arith, o .hits, found-length N q l ds);
+          opened = omega (arith, o .opened, opened-length N q l ds);
           keys-kept = o .keys-kept ∙ simp length-set;
           gathered =
               o .gathered ∙
-              rw (found-cons N k l ds, add-one (f .hits), take-suc-set keys (f .hits) v lt, is-key)
-              (append-assoc (take (f .hits) keys) (keyOf d ∷ []) (map keyOf (foundFrom N k h ds)));
+              rw (found-cons N q l ds, add-one (f .hits), take-suc-set keys (f .hits) v lt, is-key)
+              (append-assoc (take (f .hits) keys) (keyOf d ∷ []) (map keyOf (foundFrom N q h ds)));
         })
 
     -- j is the child
-    pub opens-child : {j : ℕ} {g : Found} {keys₁ : List ℕ} → j ≡ childOf d → (h ≡ 0 → ⊥) → EntryMeets k (isLeaf h) d → OpensEntries N k (h - 1) (N j) keys (oneNode f) g keys₁
-        → OpensEntries N k h ds keys₁ g r keys′ → OpensEntries N k h es keys f r keys′
-    opens-child {j} {g} {keys₁} is-child z m o q = rw e (by (rw is-child at o))
+    pub opens-child : {j : ℕ} {g : Found} {keys₁ : List ℕ} → j ≡ childOf d → (h ≡ 0 → ⊥) → EntryMeets q (isLeaf h) d → OpensEntries N q (h - 1) (N j) keys (oneNode f) g keys₁
+        → OpensEntries N q h ds keys₁ g r keys′ → OpensEntries N q h es keys f r keys′
+    opens-child {j} {g} {keys₁} is-child z m o p = rw e (by (rw is-child at o))
       where
-        by : OpensEntries N k (h - 1) (N (childOf d)) keys (oneNode f) g keys₁ → OpensEntries N k h (d ∷ ds) keys f r keys′
+        by : OpensEntries N q (h - 1) (N (childOf d)) keys (oneNode f) g keys₁ → OpensEntries N q h (d ∷ ds) keys f r keys′
         by o =
-            let l = leads-child N k h d z m in
+            let l = leads-child N q h d z m in
             record {
-              hits = omega (arith, o .hits, q .hits, found-length N k l ds);
-              opened = omega (arith, o .opened, q .opened, opened-length N k l ds);
-              keys-kept = q .keys-kept ∙ o .keys-kept;
+              hits = omega (arith, o .hits, p .hits, found-length N q l ds);
+              opened = omega (arith, o .opened, p .opened, opened-length N q l ds);
+              keys-kept = p .keys-kept ∙ o .keys-kept;
               gathered =
-                  q .gathered ∙
-                  rw (o .gathered, found-cons N k l ds, map-append)
-                  (append-assoc (take (f .hits) keys) (map keyOf (foundFrom N k (h - 1) (N (childOf d)))) (map keyOf (foundFrom N k h ds)));
+                  p .gathered ∙
+                  rw (o .gathered, found-cons N q l ds, map-append)
+                  (append-assoc (take (f .hits) keys) (map keyOf (foundFrom N q (h - 1) (N (childOf d)))) (map keyOf (foundFrom N q h ds)));
             }
 
 -- ---- and what each way needs
-module _ {w : List ℤ} {k : Query} {h i from : ℕ} {keys : List ℕ} {f : Found} (c : CanOpen w k h i from keys f) where
+module _ {w : List ℤ} {q : Query} {h i from : ℕ} {keys : List ℕ} {f : Found} (c : CanOpen w q h i from keys f) where
   abbrev entry : Entry
   entry = entryAt (nodeAt w i) from
 
   abbrev rest : List Entry
   rest = drop (from + 1) (entriesAt w i)
 
-  pub none-left : entryCount (nodeAt w i) ≤ from → drop from (entriesAt w i) ≡ []
-  unfolding entriesAt
-  none-left le = drop-of-length-le (entriesOf (nodeAt w i)) {i = from} (omega (arith, length-entriesOf (nodeAt w i)))
-
   module _ (low : from < entryCount (nodeAt w i)) where
-    pub one-more : drop from (entriesAt w i) ≡ entry ∷ rest
-    unfolding entriesAt
-    one-more = entries-next (nodeAt w i) from low
-
-    is-entry : entry ∈ entriesAt w i
-    unfolding entriesAt
-    is-entry = entry-in (nodeAt w i) from low
-
-    pub can-test : CanTest k (isLeaf h) entry
-    can-test = by h (c .tree)
+    pub can-test : CanTest q (isLeaf h) entry
+    can-test = by h (c .walk .tree)
       where
-        by : (h : ℕ) → TreeSound (entriesAt w) (capacity w) (clock w) h i → CanTest k (isLeaf h) entry
+        by : (h : ℕ) → TreeSound (entriesAt w) (capacity w) (clock w) h i → CanTest q (isLeaf h) entry
         by zero tree = record {
-          bounds-in = leaf-edges-in (entriesAt w) (capacity w) (clock w) i tree is-entry;
-          until-in = leaf-until-in (entriesAt w) (capacity w) (clock w) i tree is-entry;
+          bounds-in = leaf-edges-in (entriesAt w) (capacity w) (clock w) i tree (entry-of (c .walk) from low);
+          until-in = leaf-until-in (entriesAt w) (capacity w) (clock w) i tree (entry-of (c .walk) from low);
           query-in = c .query-in;
         }
         by (suc h) tree = record {
-          bounds-in = edges-in (entriesAt w) (capacity w) (clock w) h i tree is-entry;
-          until-in = until-in (entriesAt w) (capacity w) (clock w) h i tree is-entry;
+          bounds-in = edges-in (entriesAt w) (capacity w) (clock w) h i tree (entry-of (c .walk) from low);
+          until-in = until-in (entriesAt w) (capacity w) (clock w) h i tree (entry-of (c .walk) from low);
           query-in = c .query-in;
         }
 
-    module _ (found : List Entry) (opened : List ℕ) (l : Leads (entriesAt w) k h entry found opened) where
-      room-with : f .hits + (length found + length (foundFrom (entriesAt w) k h rest)) ≤ length keys
-      room-with = omega (arith, rw one-more at (c .room), found-length (entriesAt w) k l rest)
+    module _ (found : List Entry) (opened : List ℕ) (l : Leads (entriesAt w) q h entry found opened) where
+      room-with : f .hits + (length found + length (foundFrom (entriesAt w) q h rest)) ≤ length keys
+      room-with = omega (arith, rw (entry-left (c .walk) from low) at (c .room), found-length (entriesAt w) q l rest)
 
-      few-with : f .opened + (length opened + length (openedFrom (entriesAt w) k h rest)) < 2 ^ 32
-      few-with = omega (arith, rw one-more at (c .few-opened), opened-length (entriesAt w) k l rest)
+      few-with : f .opened + (length opened + length (openedFrom (entriesAt w) q h rest)) < 2 ^ 32
+      few-with = omega (arith, rw (entry-left (c .walk) from low) at (c .few-opened), opened-length (entriesAt w) q l rest)
 
       -- the other entries, after this one has led to so much
       onward : (keys₁ : List ℕ) (g : Found) → length keys₁ ≡ length keys → g .hits ≡ f .hits + length found → g .opened ≡ f .opened + length opened
-          → CanOpen w k h i (from + 1) keys₁ g
+          → CanOpen w q h i (from + 1) keys₁ g
       onward keys₁ g same hits opened = record {
         query-in = c .query-in;
-        long-enough = c .long-enough;
-        in-table = c .in-table;
-        tree = c .tree;
+        walk = c .walk;
         room = omega (arith, room-with);
         few-opened = omega (arith, few-with);
       }
 
-    pub can-miss : (EntryMeets k (isLeaf h) entry → ⊥) → CanOpen w k h i (from + 1) keys f
-    can-miss n = onward [] [] (leads-nowhere (entriesAt w) k h entry n) keys f refl (omega arith) (omega arith)
+    pub can-miss : (EntryMeets q (isLeaf h) entry → ⊥) → CanOpen w q h i (from + 1) keys f
+    can-miss n = onward [] [] (leads-nowhere (entriesAt w) q h entry n) keys f refl (omega arith) (omega arith)
 
-    module _ (z : h ≡ 0) (m : EntryMeets k (isLeaf h) entry) where
+    module _ (z : h ≡ 0) (m : EntryMeets q (isLeaf h) entry) where
       pub hit-room : f .hits < length keys
-      hit-room = omega (arith, room-with (entry ∷ []) [] (leads-cell (entriesAt w) k h entry z m))
+      hit-room = omega (arith, room-with (entry ∷ []) [] (leads-cell (entriesAt w) q h entry z m))
 
-      pub can-hit : (v : ℕ) → CanOpen w k h i (from + 1) (set keys (f .hits) v) (oneHit f)
-      can-hit v = onward (entry ∷ []) [] (leads-cell (entriesAt w) k h entry z m) (set keys (f .hits) v) (oneHit f) (simp length-set) (omega arith) (omega arith)
+      pub can-hit : (v : ℕ) → CanOpen w q h i (from + 1) (set keys (f .hits) v) (oneHit f)
+      can-hit v = onward (entry ∷ []) [] (leads-cell (entriesAt w) q h entry z m) (set keys (f .hits) v) (oneHit f) (simp length-set) (omega arith) (omega arith)
 
-    module _ (z : h ≡ 0 → ⊥) (m : EntryMeets k (isLeaf h) entry) where
-      leads : Leads (entriesAt w) k h entry (foundFrom (entriesAt w) k (h - 1) (entriesAt w (childOf entry))) (childOf entry ∷ openedFrom (entriesAt w) k (h - 1) (entriesAt w (childOf entry)))
-      leads = leads-child (entriesAt w) k h entry z m
-
-      below : EntrySound (entriesAt w) (capacity w) (clock w) (h - 1) entry × TreeSound (entriesAt w) (capacity w) (clock w) (h - 1) (childOf entry)
-      unfolding TreeSound
-      below = by h z (c .tree)
-        where
-          by : (h : ℕ) → (h ≡ 0 → ⊥) → TreeSound (entriesAt w) (capacity w) (clock w) h i → EntrySound (entriesAt w) (capacity w) (clock w) (h - 1) entry × TreeSound (entriesAt w) (capacity w) (clock w) (h - 1) (childOf entry)
-          by zero z tree = absurd (z refl)
-          by (suc h) z tree = rw (sub-one (suc h)) (tree entry is-entry)
+    module _ (z : h ≡ 0 → ⊥) (m : EntryMeets q (isLeaf h) entry) where
+      leads : Leads (entriesAt w) q h entry (foundFrom (entriesAt w) q (h - 1) (entriesAt w (childOf entry))) (childOf entry ∷ openedFrom (entriesAt w) q (h - 1) (entriesAt w (childOf entry)))
+      leads = leads-child (entriesAt w) q h entry z m
 
       pub node-fits : f .opened + 1 < 2 ^ 32
       node-fits = omega (arith, few-with _ _ leads)
 
       module _ {j : ℕ} (is-child : j ≡ childOf entry) where
-        pub can-child : CanOpen w k (h - 1) j 0 keys (oneNode f)
-        can-child =
-            rw is-child
-            (record {
-              query-in = c .query-in;
-              long-enough = c .long-enough;
-              in-table = node-in-table w (capacity w) (childOf entry) (childWord entry) (c .long-enough) (below .0 .child-in) refl;
-              tree = below .1;
-              room = omega (arith, room-with _ _ leads);
-              few-opened = omega (arith, few-with _ _ leads);
-            })
+        pub can-child : CanOpen w q (h - 1) j 0 keys (oneNode f)
+        can-child = record {
+          query-in = c .query-in;
+          walk = walk-to-child (c .walk) from low is-child z;
+          room = rw is-child (omega (arith, room-with _ _ leads));
+          few-opened = rw is-child (omega (arith, few-with _ _ leads));
+        }
 
-        pub can-after : {g : Found} {keys₁ : List ℕ} → OpensEntries (entriesAt w) k (h - 1) (entriesAt w j) keys (oneNode f) g keys₁ → CanOpen w k h i (from + 1) keys₁ g
+        pub can-after : {g : Found} {keys₁ : List ℕ} → OpensEntries (entriesAt w) q (h - 1) (entriesAt w j) keys (oneNode f) g keys₁ → CanOpen w q h i (from + 1) keys₁ g
         can-after {g} {keys₁} o = by (rw is-child at o)
           where
-            by : OpensEntries (entriesAt w) k (h - 1) (entriesAt w (childOf entry)) keys (oneNode f) g keys₁ → CanOpen w k h i (from + 1) keys₁ g
+            by : OpensEntries (entriesAt w) q (h - 1) (entriesAt w (childOf entry)) keys (oneNode f) g keys₁ → CanOpen w q h i (from + 1) keys₁ g
             by o = onward _ _ leads keys₁ g (o .keys-kept) (o .hits) (omega (arith, o .opened))

@@ -1,19 +1,19 @@
--- Laws of words as bytes: there and back, and words of a part of a list.
+-- Laws of words as bytes: there and back, past the end, and in lists one after the other.
 use mathlib.Core.Path.{_≡_, refl, _∙_}
 use mathlib.Core.List.{List, [], _∷_, _++_}
-use Prim.Native.Nat.{ℕ, suc, _+_, _*_, _/_, _%_, _≤_, _<_}
+use Prim.Native.Nat.{ℕ, _+_, _*_, _/_, _%_, _≤_, _<_}
 use native.Mathlib.Omega.{arith}
 use native.Mathlib.Nat.{add-assoc}
 use native.Mathlib.Numerals.{add-one, add-two, add-three}
 use lib.IntN.{ℤ, pos}
 use lib.ListN.{length, set, List·getD-append, List·getD-eq-default}
-use lib.Seq.{drop-cons, getD-append-add}
+use lib.Seq.{getD-append-add}
 use mir.Syntax.{w32}
 use mir.Val.{SFits, toZ, ofZ}
 use mir.ValLaws as ValLaws
 use Rattle.whole.specs.Laws.Within.{back}
 use Rattle.words.specs.Parts.{part, put}
-use Rattle.words.specs.Laws.Parts.{getD-part, sets-put}
+use Rattle.words.specs.Laws.Parts.{part-four, sets-put}
 use Rattle.sheet.specs.Bytes.{byteAt, AreBytes, wordBytes, fourBytes, unsignedAt, bytesOf, wordInBytes, wordOf}
 
 -- ---- a number and its four bytes
@@ -37,16 +37,6 @@ unsigned-below : (bytes : List ℕ) (at : ℕ) → AreBytes bytes → unsignedAt
 unfolding unsignedAt
 unsigned-below bytes at small = omega (arith, small at, small (at + 1), small (at + 2), small (at + 3))
 
-four-of-part : (bytes : List ℕ) (at : ℕ) → at + 4 ≤ length bytes
-    → byteAt bytes at ∷ byteAt bytes (at + 1) ∷ byteAt bytes (at + 2) ∷ byteAt bytes (at + 3) ∷ [] ≡ part bytes at 4
-unfolding part
-four-of-part bytes at inside =
-    let h₀ : at < length bytes = omega arith in
-    let h₁ : suc at < length bytes = omega arith in
-    let h₂ : suc (suc at) < length bytes = omega arith in
-    let h₃ : suc (suc (suc at)) < length bytes = omega arith in
-    rw (add-one, add-two, add-three, drop-cons bytes at 0, drop-cons bytes (suc at) 0, drop-cons bytes (suc (suc at)) 0, drop-cons bytes (suc (suc (suc at))) 0)
-
 -- ---- a word and its four bytes
 pub length-bytesOf : (z : ℤ) → length (bytesOf z) ≡ wordBytes
 unfolding bytesOf fourBytes
@@ -60,20 +50,9 @@ pub bytes-of-word : (bytes : List ℕ) (at : ℕ) → AreBytes bytes → at + wo
 unfolding wordInBytes bytesOf unsignedAt
 bytes-of-word bytes at small inside =
     rw (ValLaws.ofZ-toZ w32 (unsignedAt bytes at) (record { fits = unsigned-below bytes at small }))
-    (back-again _ _ _ _ (small at) (small (at + 1)) (small (at + 2)) (small (at + 3)) ∙ four-of-part bytes at inside)
-
--- a word fits
-pub word-fits : (bytes : List ℕ) (at : ℕ) → AreBytes bytes → SFits w32 (wordInBytes bytes at)
-unfolding wordInBytes
-word-fits bytes at small = ValLaws.toZ-fits w32 (unsignedAt bytes at) (record { fits = unsigned-below bytes at small })
+    (back-again _ _ _ _ (small at) (small (at + 1)) (small (at + 2)) (small (at + 3)) ∙ part-four bytes at 0 inside)
 
 -- ---- words of a part, and past the end
-pub word-of-part : (bytes : List ℕ) (a k at : ℕ) → at + wordBytes ≤ k → wordInBytes (part bytes a k) at ≡ wordInBytes bytes (a + at)
-unfolding wordInBytes unsignedAt
-word-of-part bytes a k at h =
-    rw (getD-part bytes a k at 0 (omega arith), getD-part bytes a k (at + 1) 0 (omega arith), getD-part bytes a k (at + 2) 0 (omega arith), getD-part bytes a k (at + 3) 0 (omega arith))
-    (simp add-assoc)
-
 pub word-past : (bytes : List ℕ) (at : ℕ) → length bytes ≤ at → wordInBytes bytes at ≡ pos 0
 unfolding wordInBytes unsignedAt
 word-past bytes at h = rw (past at h, past (at + 1) (omega arith), past (at + 2) (omega arith), past (at + 3) (omega arith))

@@ -1,59 +1,42 @@
 -- The loop that writes words one after the other: what holds after each turn.
-use mathlib.Core.Path.{_≡_, refl, sym, ap, _∙_}
-use mathlib.Core.List.{List, [], _∷_, _++_, append-assoc, append-nil}
+use mathlib.Core.Path.{_≡_}
+use mathlib.Core.List.{List, [], _∷_, _++_}
 use Prim.Native.Nat.{ℕ, _+_, _*_, _≤_, _<_}
 use native.Mathlib.Numerals.{add-one}
 use native.Mathlib.Omega.{arith}
 use lib.IntN.{ℤ, pos}
-use lib.ListN.{length, getD, take, length-take}
-use lib.Seq.{take-suc, take-all}
+use lib.ListN.{length, getD, take}
+use lib.Seq.{take-suc, take-all, length-take-le}
 use Rattle.words.specs.Parts.{put}
-use Rattle.words.specs.Laws.Parts.{put-none, put-beside, length-put}
+use Rattle.words.specs.Inner.InLine.{PutInLine}
+use Rattle.words.specs.Laws.InLine.{none-in-line, one-in-line}
 use Rattle.sheet.specs.Bytes.{wordBytes, bytesOf}
-use Rattle.sheet.specs.Laws.Bytes.{length-bytesOf}
 use Rattle.sheet.specs.Sheet.{bytesOfAll}
-use Rattle.sheet.specs.Laws.Sheet.{length-bytesOfAll}
-
-all-append : (words : List ℤ) (z : ℤ) → bytesOfAll (words ++ (z ∷ [])) ≡ bytesOfAll words ++ bytesOf z
-unfolding bytesOfAll
-all-append [] z = append-nil (bytesOf z)
-all-append (y ∷ words) z = rw (all-append words z) (sym (append-assoc (bytesOf y) (bytesOfAll words) (bytesOf z)))
+use Rattle.sheet.specs.Laws.Sheet.{word-pieces}
 
 -- the first j words are written to w from `at` on, which made it t
 pub record WordsPut (w t : List ℕ) (at : ℕ) (words : List ℤ) (j : ℕ) : Type 0 where
   pub upto : j ≤ length words
-  pub is : t ≡ put w at (wordBytes * j) (bytesOfAll (take j words))
-  pub long : length t ≡ length w
+  pub in-line : PutInLine bytesOfAll wordBytes w at (take j words) t
 
 pub none-put : {w : List ℕ} {at : ℕ} {words : List ℤ} → WordsPut w w at words 0
-unfolding bytesOfAll
-none-put {w} {at} = record { upto = omega arith; is = sym (put-none w at); long = refl }
+none-put {w} {at} = record { upto = omega arith; in-line = none-in-line word-pieces w at }
 
 pub word-put : {w t u : List ℕ} {at : ℕ} {words : List ℤ} {j : ℕ} → WordsPut w t at words j → j < length words → at + wordBytes * length words ≤ length w
     → u ≡ put t (at + wordBytes * j) wordBytes (bytesOf (getD words j (pos 0))) → WordsPut w u at words (j + 1)
-word-put {w} {t} {at} {words} {j} so-far h fits e = record {
+word-put {w} {t} {u} {at} {words} {j} so-far h fits e = record {
   upto = omega arith;
-  is = e ∙ rw (so-far .is, put-beside w at (wordBytes * j) (bytesOfAll (take j words)) wordBytes (bytesOf z) (omega arith) written, more, next) refl;
-  long = ap length e ∙ length-put t (at + wordBytes * j) wordBytes (bytesOf z) (omega (arith, so-far .long)) (length-bytesOf z) ∙ so-far .long;
+  in-line = rw next (one-in-line word-pieces (getD words j (pos 0)) (so-far .in-line) (rw many (omega arith)) (rw many e));
 }
   where
-    z : ℤ
-    z = getD words j (pos 0)
+    many : length (take j words) ≡ j
+    many = length-take-le j words (so-far .upto)
 
-    written : length (bytesOfAll (take j words)) ≡ wordBytes * j
-    written = length-bytesOfAll (take j words) ∙ ap (λ (n : ℕ). wordBytes * n) (length-take-low)
-      where
-        length-take-low : length (take j words) ≡ j
-        length-take-low = simp length-take (omega arith)
-
-    more : wordBytes * (j + 1) ≡ wordBytes * j + wordBytes
-    more = omega arith
-
-    next : bytesOfAll (take (j + 1) words) ≡ bytesOfAll (take j words) ++ bytesOf z
-    next = rw (add-one, take-suc words j (pos 0) h) (all-append (take j words) z)
+    next : take (j + 1) words ≡ take j words ++ (getD words j (pos 0) ∷ [])
+    next = rw (add-one, take-suc words j (pos 0) h)
 
 pub all-put : {w t : List ℕ} {at : ℕ} {words : List ℤ} {j : ℕ} → WordsPut w t at words j → length words ≤ j
     → t ≡ put w at (wordBytes * length words) (bytesOfAll words)
 all-put {words} {j} so-far h =
     let e : j ≡ length words = omega (arith, so-far .upto) in
-    rw (e, take-all (length words) words (omega arith)) at (so-far .is)
+    rw (e, take-all (length words) words (omega arith)) at (so-far .in-line .is)

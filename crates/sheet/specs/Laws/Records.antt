@@ -1,7 +1,7 @@
--- Laws of `Records`.
+-- The records tried one by one: each cell may follow the one before it exactly when all are sound, and what holds after each turn of the loop.
 use mathlib.Core.Path.{_≡_, refl}
 use mathlib.Core.Logic.{⊎-elim, _↔_}
-use mathlib.Core.Bool.{true, false}
+use mathlib.Core.Bool.{Bool, true, false, _&&_}
 use mathlib.Core.List.{List, [], _∷_, map, List·Memᴰ·head, List·Memᴰ·tail, List·Memᴰ·not-nil, List·Memᴰ·cases-cons}
 use Prim.Native.Nat.{ℕ, suc, _+_, _-_, _≤_, _<_}
 use native.Mathlib.Numerals.{add-one}
@@ -13,12 +13,35 @@ use Rattle.whole.specs.Lists.{_∈_}
 use Rattle.whole.specs.Rising.{Rising, rising-one, rising-more}
 use Rattle.whole.specs.Laws.Rising.{rising-tail}
 use Rattle.whole.specs.Tells.{Tells}
-use Rattle.whole.specs.Laws.Tells.{tells-true, tells-false}
+use Rattle.whole.specs.Laws.Tells.{tells-true, tells-false, tells-as, tells-both}
 use Rattle.track.specs.Life.{identifier, LivesAt, CellInRange}
 use Rattle.track.specs.declared.cell.Cell.{Cell}
 use Rattle.sheet.specs.Sheet.{clockOf, recordCount, cellAt, cellsFrom, cellsOf}
 use Rattle.sheet.specs.WellFormed.{CellsSound, RecordsSound}
-use Rattle.sheet.specs.Inner.Records.{Follows}
+use Rattle.sheet.specs.Inner.Records.{leftFrom, Follows}
+
+-- ---- the records that are left: all at first, one less with each, none at last
+pub all-left : (bytes : List ℕ) → leftFrom bytes 0 ≡ cellsOf bytes
+all-left bytes = let all : recordCount bytes - 0 ≡ recordCount bytes = omega arith in rw all
+
+pub next-left : (bytes : List ℕ) (k : ℕ) → k < recordCount bytes → leftFrom bytes k ≡ cellAt bytes k ∷ leftFrom bytes (k + 1)
+unfolding cellsFrom
+next-left bytes k h =
+    let e : recordCount bytes - k ≡ suc (recordCount bytes - (k + 1)) = omega arith in
+    rw (e, add-one)
+
+pub none-are-left : (bytes : List ℕ) (k : ℕ) → recordCount bytes ≤ k → leftFrom bytes k ≡ []
+unfolding cellsFrom
+none-are-left bytes k h = let e : recordCount bytes - k ≡ 0 = omega arith in rw e
+
+-- ---- one record after the other
+-- the tests of one record together
+pub follows-tells : {clock last : ℤ} {c : Cell} {range life rises : Bool} → Tells range (CellInRange c) → Tells life (LivesAt clock c) → Tells rises (last <ℤ c .id)
+    → Tells (range && life && rises) (Follows clock last c)
+follows-tells range life rises =
+    tells-as (tells-both (tells-both range life) rises)
+    (λ h. record { in-range = h .0 .0; in-life = h .0 .1; after = h .1 })
+    (λ f. ((f .in-range, f .in-life), f .after))
 
 -- each cell may follow the one before it
 pub data Following (clock : ℤ) : ℤ → List Cell → Type 0 where
@@ -67,32 +90,21 @@ module _ {clock : ℤ} where
 -- ---- the loop: the first k records are passed, and all are sound exactly when those that are left may follow
 pub record RecordsPassed (bytes : List ℕ) (last : ℤ) (k : ℕ) : Type 0 where
   pub upto : k ≤ recordCount bytes
-  pub told : RecordsSound bytes ↔ Following (clockOf bytes) last (cellsFrom bytes k (recordCount bytes - k))
+  pub told : RecordsSound bytes ↔ Following (clockOf bytes) last (leftFrom bytes k)
 
 module _ {bytes : List ℕ} where
   pub none-passed : RecordsPassed bytes (pos 0) 0
-  none-passed =
-      let all : recordCount bytes - 0 ≡ recordCount bytes = omega arith in
-      record { upto = omega arith; told = rw all (sound-follow (cellsOf bytes), follow-sound (cellsOf bytes)) }
+  none-passed = record { upto = omega arith; told = rw (all-left bytes) (sound-follow (cellsOf bytes), follow-sound (cellsOf bytes)) }
 
   module _ {last : ℤ} {k : ℕ} (so-far : RecordsPassed bytes last k) where
-    next-left : k < recordCount bytes → cellsFrom bytes k (recordCount bytes - k) ≡ cellAt bytes k ∷ cellsFrom bytes (k + 1) (recordCount bytes - (k + 1))
-    unfolding cellsFrom
-    next-left h =
-        let e : recordCount bytes - k ≡ suc (recordCount bytes - (k + 1)) = omega arith in
-        rw (e, add-one)
-
     pub one-passed : k < recordCount bytes → Follows (clockOf bytes) last (cellAt bytes k) → RecordsPassed bytes (cellAt bytes k .id) (k + 1)
     one-passed h f = record {
       upto = omega arith;
-      told = (λ s. rest-follow (rw (next-left h) at (so-far .told .0 s)), λ rest. so-far .told .1 (rw (next-left h) (one-more f rest)));
+      told = (λ s. rest-follow (rw (next-left bytes k h) at (so-far .told .0 s)), λ rest. so-far .told .1 (rw (next-left bytes k h) (one-more f rest)));
     }
 
     pub one-failed : k < recordCount bytes → (Follows (clockOf bytes) last (cellAt bytes k) → ⊥) → Tells false (RecordsSound bytes)
-    one-failed h n = tells-false (λ s. n (first-follows (rw (next-left h) at (so-far .told .0 s))))
+    one-failed h n = tells-false (λ s. n (first-follows (rw (next-left bytes k h) at (so-far .told .0 s))))
 
     pub all-passed : recordCount bytes ≤ k → Tells true (RecordsSound bytes)
-    unfolding cellsFrom
-    all-passed h =
-        let e : recordCount bytes - k ≡ 0 = omega arith in
-        tells-true (so-far .told .1 (rw e none-left))
+    all-passed h = tells-true (so-far .told .1 (rw (none-are-left bytes k h) none-left))

@@ -14,6 +14,8 @@ use mir.Val.{SFits}
 use Rattle.whole.specs.Lists.{_∈_}
 use Rattle.whole.specs.Laws.Within.{fits}
 use Rattle.words.specs.Parts.{part}
+use Rattle.words.specs.Inner.InLine.{Pieces}
+use Rattle.words.specs.Laws.InLine.{length-pieces}
 use Rattle.words.specs.Laws.Parts.{part-add}
 use Rattle.words.specs.Words.{natOf}
 use Rattle.words.specs.Laws.Words.{pos-natOf}
@@ -27,18 +29,22 @@ use Rattle.sheet.specs.Sheet.{headerBytes, recordBytes, recordStart, tot
 use Rattle.sheet.specs.WellFormed.{HeaderSound, CellsSound, SheetSound}
 
 -- ---- lengths
-pub length-bytesOfAll : (words : List ℤ) → length (bytesOfAll words) ≡ wordBytes * length words
+pub word-pieces : Pieces bytesOf wordBytes bytesOfAll
 unfolding bytesOfAll
-length-bytesOfAll [] = refl
-length-bytesOfAll (z ∷ words) = simp length-append (omega (arith, length-bytesOf z, length-bytesOfAll words))
+word-pieces = record { none = refl; more = λ z words. refl; size-is = length-bytesOf }
+
+pub length-bytesOfAll : (words : List ℤ) → length (bytesOfAll words) ≡ wordBytes * length words
+length-bytesOfAll = length-pieces word-pieces
 
 pub length-recordOf : (c : Cell) → length (recordOf c) ≡ recordBytes
 length-recordOf c = length-bytesOfAll (cellNumbers c)
 
-pub length-recordsOf : (cells : List Cell) → length (recordsOf cells) ≡ recordBytes * length cells
+pub record-pieces : Pieces recordOf recordBytes recordsOf
 unfolding recordsOf
-length-recordsOf [] = refl
-length-recordsOf (c ∷ cells) = simp length-append (omega (arith, length-recordOf c, length-recordsOf cells))
+record-pieces = record { none = refl; more = λ c cells. refl; size-is = length-recordOf }
+
+length-recordsOf : (cells : List Cell) → length (recordsOf cells) ≡ recordBytes * length cells
+length-recordsOf = length-pieces record-pieces
 
 pub length-sheetOf : (clock : ℤ) (cells : List Cell) → length (sheetOf clock cells) ≡ totalFor (length cells)
 unfolding sheetOf

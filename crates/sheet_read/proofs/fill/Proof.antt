@@ -22,14 +22,8 @@ can s = rw (back (s .fits .minute)) (s .pre)
 low : (c : tie.In-loop Inv-loop μ-loop) → c .before .loop .k < recordCount (c .before .before .before .before .args .bytes .now)
 low c = omega (arith, c .before .before .count-of .ensures .0)
 
-count-of-requires : tie.Need-count-of-requires Inv-loop μ-loop
-count-of-requires c κs = search needs
-
 loop-holds : tie.Need-loop-holds Inv-loop μ-loop
 loop-holds c = filling-none (can (c .before .before))
-
-cell-at-requires : tie.Need-cell-at-requires Inv-loop μ-loop
-cell-at-requires c κs = search needs
 
 put-cell-requires : tie.Need-put-cell-requires Inv-loop μ-loop
 put-cell-requires c κs =
@@ -38,17 +32,8 @@ put-cell-requires c κs =
     let here = low (c .before .before) in
     (has-room can-here inv here, rw (c .cell-at .ensures) (next-in-range can-here inv here))
 
-add-k : tie.Need-add-k Inv-loop μ-loop
-add-k c = search needs
-
-loop-less : tie.Need-loop-less Inv-loop μ-loop
-loop-less c = search needs
-
 loop-again : tie.Need-loop-again Inv-loop μ-loop
 loop-again c = filling-next (can (c .before .before .before .before .before .before .before .before)) (c .before .before .before .before .before .loop .inv) (low (c .before .before .before .before)) (rw (c .before .before .cell-at .ensures) at (c .before .put-cell .ensures))
-
-same-length : tie.Need-same-length Inv-loop μ-loop
-same-length c = search needs
 
 returns : tie.Need-returns Inv-loop μ-loop
 returns c =
@@ -61,12 +46,12 @@ fill-spec =
     (tie.spec
     Inv-loop
     μ-loop
-    count-of-requires
+    (λ c κs. search needs)
     loop-holds
-    cell-at-requires
+    (λ c κs. search needs)
     put-cell-requires
-    add-k
-    loop-less
+    (λ c. search needs)
+    (λ c. search needs)
     loop-again
-    same-length
+    (λ c. search needs)
     returns)

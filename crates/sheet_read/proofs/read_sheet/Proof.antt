@@ -8,20 +8,8 @@ use borrow.Author.Needs.{needs}
 use Rattle.sheet_read.proofs.read_sheet.Statement.{statement}
 use Rattle.sheet_read.proofs.read_sheet.Tie as tie
 
-judged : (c : tie.After-judge) → let a = c .before .before .before .args in First (readReasons (a .cells) (a .t .now) (a .bytes .now)) (outcomeNumber (c .judge .result))
-judged c = simp (back (c .before .before .before .fits .cells)) at (c .judge .ensures)
-
-judge-requires : tie.Need-judge-requires
-judge-requires c κs = search needs
-
-enum-told : tie.Need-enum-told
-enum-told c = search needs
-
-enum-told-2 : tie.Need-enum-told-2
-enum-told-2 c = search needs
-
-same-length : tie.Need-same-length
-same-length c = search needs
+judged : (c : tie.After-judge-reading) → let a = c .before .before .before .args in First (readReasons (a .cells) (a .t .now) (a .bytes .now)) (outcomeNumber (c .judge-reading .result))
+judged c = simp (back (c .before .before .before .fits .cells)) at (c .judge-reading .ensures)
 
 returns : tie.Need-returns
 returns c = reads-refused (judged (c .before .before)) (c .enum-told2 .given .1)
@@ -29,10 +17,7 @@ returns c = reads-refused (judged (c .before .before)) (c .enum-told2 .given .1)
 replace-requires : tie.Need-replace-requires
 replace-requires c κs =
     let j = judged (c .before .before .before) in
-    rw (back (c .before .before .before .before .before .before .fits .cells)) (accepted-can (outcomeNumber (c .before .before .before .judge .result)) j (ap outcomeNumber (c .before .enum-told .given .1)))
-
-same-length-2 : tie.Need-same-length-2
-same-length-2 c = search needs
+    rw (back (c .before .before .before .before .before .before .fits .cells)) (accepted-can (outcomeNumber (c .before .before .before .judge-reading .result)) j (ap outcomeNumber (c .before .enum-told .given .1)))
 
 returns-2 : tie.Need-returns-2
 returns-2 c =
@@ -40,4 +25,4 @@ returns-2 c =
     reads-accepted (judged (c .before .before .before .before .before)) (c .before .before .before .enum-told .given .1) (rw (back (s .fits .cells)) at (c .before .replace .ensures))
 
 pub read-sheet-spec : {M : Type 1} → statement M
-read-sheet-spec = tie.close (tie.spec judge-requires enum-told enum-told-2 same-length returns replace-requires same-length-2 returns-2)
+read-sheet-spec = tie.close (tie.spec (λ c κs. search needs) (λ c. search needs) (λ c. search needs) (λ c. search needs) returns replace-requires (λ c. search needs) returns-2)

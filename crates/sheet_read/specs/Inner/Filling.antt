@@ -1,4 +1,4 @@
--- The cells of a sheet put into a fresh table one after the other: what holds after each, and that the table is read in the end.
+-- The cells of a sheet put into a fresh table: what is asked of it, and what it is then.
 use mathlib.Core.Path.{_≡_}
 use mathlib.Core.List.{List, [], map}
 use Prim.Native.Nat.{ℕ, _≤_}

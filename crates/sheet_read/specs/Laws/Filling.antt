@@ -1,9 +1,8 @@
--- Laws of `Filling`.
+-- The cells of a sheet put into a fresh table one after the other: what holds after each, and that the table is read in the end.
 use mathlib.Core.Path.{_≡_, refl, ap, ap₂, _∙_, subst}
 use mathlib.Core.List.{List, [], _∷_, _++_, map, append-nil, Memᴰ·map, Memᴰ·of-map, List·Memᴰ·head, List·Memᴰ·tail}
 use mathlib.Core.Logic.{⊎-elim}
 use Prim.Native.Nat.{ℕ, suc, _+_, _-_, _≤_, _<_}
-use native.Mathlib.Numerals.{add-one}
 use native.Mathlib.Omega.{arith}
 use lib.IntN.{ℤ, ℤ-discrete}
 use lib.ListN.{length, length-append, length-map}
@@ -20,21 +19,19 @@ use Rattle.table.specs.Fresh.{IsFresh}
 use Rattle.table.specs.Sound.{held}
 use Rattle.tree_laws.specs.Inner.Weights.{SameWeights}
 use Rattle.tree_laws.specs.Laws.Weights.{sum-append, sum-cons, same-sym, same-length, same-map, same-entries, same-no-repeat}
-use Rattle.tree.specs.Inner.Headed.{Clocked}
+use Rattle.table.specs.Inner.Headed.{Clocked}
 use Rattle.tree.specs.Inner.Holding.{leaves, Holding, RenewsAll, Stands}
 use Rattle.tree.specs.Laws.Holding.{stands-all, stands-then, stands-capacity}
 use Rattle.tree.specs.Laws.Renewed.{no-inner}
 use Rattle.tree.specs.Inner.PutCell.{HasRoom, PutCell}
 use Rattle.tree.specs.Laws.Stepping.{sound-holding, sound-at-last, entries-at-last, stands-at-last, same-leaves, rest-at-last}
-use Rattle.sheet.specs.Sheet.{recordCount, clockOf, cellAt, cellsFrom, cellsOf}
+use Rattle.sheet.specs.Sheet.{recordCount, clockOf, cellAt, cellsOf}
+use Rattle.sheet.specs.Inner.Records.{leftFrom}
+use Rattle.sheet.specs.Laws.Records.{all-left, next-left, none-are-left}
 use Rattle.sheet.specs.Laws.Sheet.{length-cellsFrom}
 use Rattle.sheet_read.specs.Reads.{IsRead}
 use Rattle.sheet_read.specs.Inner.ReadingSteps.{CanRead}
 use Rattle.sheet_read.specs.Inner.Filling.{CanFill, Filled}
-
--- the cells of the records from record k on
-abbrev pub leftFrom : List ℕ → ℕ → List Cell
-leftFrom bytes k = cellsFrom bytes k (recordCount bytes - k)
 
 -- those before record k are put in: with the entries of those that are left, the leaves have all of them
 pub record Filling (w : List ℤ) (bytes : List ℕ) (minute : ℤ) (k : ℕ) (v : List ℤ) : Type 0 where
@@ -47,16 +44,14 @@ pub record Filling (w : List ℤ) (bytes : List ℕ) (minute : ℤ) (k : ℕ) (v
 
 module _ {w : List ℤ} {bytes : List ℕ} {minute : ℤ} (can : CanFill w bytes minute) where
   pub filling-none : Filling w bytes minute 0 w
-  filling-none =
-      let all : recordCount bytes - 0 ≡ recordCount bytes = omega arith in
-      record {
-        upto = omega arith;
-        holding = can .holding;
-        stands = stands-all (capacity w) w;
-        entries = rw (all, can .none-yet) (record { same = λ φ. refl });
-        renews = λ S new all. all;
-        left = λ c m. rw all at m;
-      }
+  filling-none = record {
+    upto = omega arith;
+    holding = can .holding;
+    stands = stands-all (capacity w) w;
+    entries = rw (all-left bytes, can .none-yet) (record { same = λ φ. refl });
+    renews = λ S new all. all;
+    left = λ c m. rw (all-left bytes) at m;
+  }
 
   module _ {k : ℕ} {v : List ℤ} (so-far : Filling w bytes minute k v) where
     many-left : length (leaves v) + (recordCount bytes - k) ≡ recordCount bytes
@@ -72,17 +67,11 @@ module _ {w : List ℤ} {bytes : List ℕ} {minute : ℤ} (can : CanFill w bytes
         )
 
     module _ (low : k < recordCount bytes) where
-      next-left : leftFrom bytes k ≡ cellAt bytes k ∷ leftFrom bytes (k + 1)
-      unfolding cellsFrom
-      next-left =
-          let e : recordCount bytes - k ≡ suc (recordCount bytes - (k + 1)) = omega arith in
-          rw (e, add-one)
-
       pub has-room : HasRoom v minute
       has-room = record { holding = so-far .holding; few = rw (stands-capacity (so-far .stands)) (omega (arith, many-left, can .few)) }
 
       pub next-in-range : CellInRange (cellAt bytes k)
-      next-in-range = can .in-range (cellAt bytes k) (so-far .left (cellAt bytes k) (rw next-left (List·Memᴰ·head refl)))
+      next-in-range = can .in-range (cellAt bytes k) (so-far .left (cellAt bytes k) (rw (next-left bytes k low) (List·Memᴰ·head refl)))
 
       pub filling-next : {u : List ℤ} → PutCell v minute (leafEntry (cellAt bytes k)) u → Filling w bytes minute (k + 1) u
       filling-next {u} p = record {
@@ -91,7 +80,7 @@ module _ {w : List ℤ} {bytes : List ℕ} {minute : ℤ} (can : CanFill w bytes
         stands = stands-then (so-far .stands) (rw (stands-capacity (so-far .stands)) at (p .stands));
         entries = record { same = λ φ. omega (arith, p .one-more .same φ, sum-cons φ x (leaves v), sum-append φ (leaves u) rest, was .same φ, sum-append φ (leaves v) (x ∷ rest), sum-cons φ x rest) };
         renews = λ S new all. p .renews S new (so-far .renews S new all);
-        left = λ c m. so-far .left c (rw next-left (List·Memᴰ·tail m));
+        left = λ c m. so-far .left c (rw (next-left bytes k low) (List·Memᴰ·tail m));
       }
         where
           x : Entry
@@ -101,13 +90,10 @@ module _ {w : List ℤ} {bytes : List ℕ} {minute : ℤ} (can : CanFill w bytes
           rest = map leafEntry (leftFrom bytes (k + 1))
 
           was : SameWeights (leaves v ++ (leafEntry (cellAt bytes k) ∷ map leafEntry (leftFrom bytes (k + 1)))) (map leafEntry (cellsOf bytes))
-          was = rw next-left at (so-far .entries)
+          was = rw (next-left bytes k low) at (so-far .entries)
 
     pub filled : recordCount bytes ≤ k → Filled w bytes minute v
-    unfolding cellsFrom
-    filled le =
-        let e : recordCount bytes - k ≡ 0 = omega arith in
-        record { holding = so-far .holding; stands = so-far .stands; entries = rw append-nil at (rw e at (so-far .entries)); renews = so-far .renews }
+    filled le = record { holding = so-far .holding; stands = so-far .stands; entries = rw append-nil at (rw (none-are-left bytes k le) at (so-far .entries)); renews = so-far .renews }
 
 -- ---- from the fresh table to the one that was read
 map-back : (l : List Cell) → map cellOf (map leafEntry l) ≡ l

@@ -1,4 +1,4 @@
--- Laws of `ReadingSteps`.
+-- What may be read is what is not refused, one law for each way through the reading, the live cells of what was read, and that the answer is fixed.
 use mathlib.Core.Path.{_≡_, refl, sym, ap, _∙_, subst}
 use mathlib.Core.Logic.{inr}
 use mathlib.Core.List.{List}
@@ -49,8 +49,8 @@ module _ {cells : ℤ} {w : List ℤ} {bytes : List ℕ} {r : Outcome} (judged :
       record { refusal = subst (λ (s : Outcome). First (readReasons cells w bytes) (outcomeNumber s)) e judged; accepted = λ z. read; refused = λ n. absurd (n refl) }
 
 -- a fresh table is made of words into which a sheet may be read
-pub fresh-made : {cells : ℤ} {w : List ℤ} {bytes : List ℕ} {n : ℕ} {v : List ℤ} → CanRead cells w bytes → MakesFresh cells w n v → IsFresh cells w v
-fresh-made {cells} {w} {n} c m =
+pub can-make-fresh : {cells : ℤ} {w : List ℤ} {bytes : List ℕ} {n : ℕ} {v : List ℤ} → CanRead cells w bytes → MakesFresh cells w n v → IsFresh cells w v
+can-make-fresh {cells} {w} {n} c m =
     m .accepted (first-fixed (freshReasons cells w) n 0 (m .refusal) (inr (λ f. f (c .capacity-in), inr (λ lt. omega (arith, c .long-enough), refl))))
 
 -- ---- the live cells of what was read are the sheet's

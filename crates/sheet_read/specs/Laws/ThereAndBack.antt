@@ -7,11 +7,12 @@ use native.Mathlib.Omega.{arith}
 use lib.IntN.{ℤ}
 use lib.ListN.{length, take, drop}
 use Rattle.words.specs.Words.{natOf}
+use Rattle.track.specs.Numbers.{mostCells}
 use Rattle.track.specs.declared.cell.Cell.{Cell}
 use Rattle.table.specs.Header.{IsCapacity, clock, wordsFor}
 use Rattle.table.specs.Sound.{Sound, Live}
 use Rattle.sheet.specs.Bytes.{AreBytes}
-use Rattle.sheet.specs.Sheet.{mostCells, totalFor, sheetOf, recordCount, cellsOf}
+use Rattle.sheet.specs.Sheet.{totalFor, sheetOf, recordCount, cellsOf}
 use Rattle.sheet.specs.Laws.Sheet.{sheet-back, length-is, length-cellsFrom}
 use Rattle.sheet.specs.WellFormed.{SheetSound}
 use Rattle.leafing.specs.Laws.LiveCells.{live-same-list}

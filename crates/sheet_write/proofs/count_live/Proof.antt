@@ -6,7 +6,7 @@ use mir.Val.{toZ, ofZ}
 use Rattle.whole.specs.Laws.Within.{read32}
 use Rattle.track.specs.Laws.Numbers.{identifier-in}
 use Rattle.table.specs.Header.{greatestCapacity}
-use Rattle.table.specs.Inner.SoundBy.{held-in}
+use Rattle.table.specs.Laws.SoundBy.{held-in}
 use Rattle.leafing.specs.NextLive.{NextLive}
 use Rattle.leafing.specs.declared.search.Next.the-variants.{One}
 use Rattle.sheet_write.specs.Laws.Passes.{Visited, visited-none, visited-next, visited-few, visited-all}
@@ -32,12 +32,6 @@ loop-holds c = visited-none (c .pre)
 
 next-of-sound-requires : tie.Need-next-of-sound-requires Inv-loop μ-loop
 next-of-sound-requires c κs = c .before .pre
-
-enum-known-c : tie.Need-enum-known-c Inv-loop μ-loop
-enum-known-c c = search needs
-
-enum-told : tie.Need-enum-told Inv-loop μ-loop
-enum-told c = search needs
 
 returns : tie.Need-returns Inv-loop μ-loop
 returns c =
@@ -66,8 +60,8 @@ count-live-spec =
     μ-loop
     loop-holds
     next-of-sound-requires
-    enum-known-c
-    enum-told
+    (λ c. search needs)
+    (λ c. search needs)
     returns
     add-n
     loop-less

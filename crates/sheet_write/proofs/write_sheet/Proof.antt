@@ -10,9 +10,6 @@ use Rattle.sheet_write.proofs.write_sheet.Tie as tie
 sound : (c : tie.Else1) → Sound (c .before .before .before .args .t .now)
 sound c = passed-not (c .before .is-sound .ensures) (c .if1 .left)
 
-is-sound-requires : tie.Need-is-sound-requires
-is-sound-requires c κs = search needs
-
 returns : tie.Need-returns
 returns c = writes-unsound (failed-not (c .before .is-sound .ensures) (c .if1 .taken))
 
@@ -32,11 +29,8 @@ put-sheet-requires c κs = record {
   room = omega (arith, c .before .before .total-for .ensures, c .before .if2 .left);
 }
 
-same-length : tie.Need-same-length
-same-length c = search needs
-
 returns-3 : tie.Need-returns-3
 returns-3 c = writes-all (sound (c .before .before .before .before .before .before .before)) (c .before .before .before .before .before .total-for .ensures) (search needs) (c .before .before .put-sheet .ensures)
 
 pub write-sheet-spec : {M : Type 1} → statement M
-write-sheet-spec = tie.close (tie.spec is-sound-requires returns count-live-requires total-for-requires returns-2 put-sheet-requires same-length returns-3)
+write-sheet-spec = tie.close (tie.spec (λ c κs. search needs) returns count-live-requires total-for-requires returns-2 put-sheet-requires (λ c. search needs) returns-3)

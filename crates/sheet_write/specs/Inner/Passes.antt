@@ -1,4 +1,4 @@
--- The two passes of the writing: the live cells are counted, then written one after the other. What holds after each turn of their loops.
+-- The two passes of the writing: the live cells are counted, then written one after the other.
 use mathlib.Core.Path.{_≡_}
 use mathlib.Core.List.{List}
 use Prim.Native.Nat.{ℕ, _≤_}

@@ -1,4 +1,4 @@
--- Laws of `Passes`.
+-- The two passes of the writing, one law for each turn of their loops: cells are visited and counted, then their records are put one after the other.
 use mathlib.Core.Path.{_≡_, refl, sym, ap, _∙_, subst}
 use mathlib.Core.List.{List, [], _∷_, _++_, append-assoc, append-nil}
 use Prim.Native.Nat.{ℕ, _+_, _≤_, _<_}
@@ -10,7 +10,7 @@ use Rattle.track.specs.declared.cell.Cell.{Cell}
 use Rattle.table.specs.Header.{clock, greatestCapacity}
 use Rattle.table.specs.Sound.{Sound}
 use Rattle.sheet.specs.Sheet.{headerBytes, recordBytes, recordStart, headerOf, recordOf}
-use Rattle.sheet.specs.Laws.PutSheet.{SheetPut, header-put, record-put, sheet-put}
+use Rattle.sheet.specs.Laws.PutSheet.{SheetPut, put-long, header-put, record-put, sheet-put}
 use Rattle.leafing.specs.NextLive.{NextLive}
 use Rattle.leafing.specs.Laws.NextLive.{steps-sound}
 use Rattle.leafing.specs.Leafed.{Leafed}
@@ -71,8 +71,8 @@ pub record PuttingOn (w : List ℤ) (headed : List ℕ) (n : ℕ) (last : ℤ) (
   pub on : (bytes : List ℕ) → CanPutSheet w bytes n → headed ≡ put bytes 0 headerBytes (headerOf (clock w) n) → Putting w bytes n last k t
 
 module _ {w : List ℤ} {bytes : List ℕ} {n : ℕ} (can : CanPutSheet w bytes n) where
-  pub put-none : {t : List ℕ} → t ≡ put bytes 0 headerBytes (headerOf (clock w) n) → Putting w bytes n (pos 0) 0 t
-  put-none e = record {
+  pub putting-none : {t : List ℕ} → t ≡ put bytes 0 headerBytes (headerOf (clock w) n) → Putting w bytes n (pos 0) 0 t
+  putting-none e = record {
     done = [];
     left = can .counted .cells;
     leafed = can .counted .leafed;
@@ -84,10 +84,10 @@ module _ {w : List ℤ} {bytes : List ℕ} {n : ℕ} (can : CanPutSheet w bytes 
 
   module _ {last : ℤ} {k : ℕ} {t : List ℕ} (so-far : Putting w bytes n last k t) where
     pub record-fits : k < n → recordStart k + recordBytes ≤ length t
-    record-fits lt = omega (arith, can .room, so-far .so-put .long)
+    record-fits lt = omega (arith, can .room, put-long (so-far .so-put))
 
-    pub put-next : (c : Cell) → NextLive w last (One c) → {u : List ℕ} → u ≡ put t (recordStart k) recordBytes (recordOf c) → Putting w bytes n (c .id) (k + 1) u
-    put-next c next {u} e = by (leafed-first (so-far .goes-on) (steps-sound (can .sound) last (One c) next))
+    pub putting-next : (c : Cell) → NextLive w last (One c) → {u : List ℕ} → u ≡ put t (recordStart k) recordBytes (recordOf c) → Putting w bytes n (c .id) (k + 1) u
+    putting-next c next {u} e = by (leafed-first (so-far .goes-on) (steps-sound (can .sound) last (One c) next))
       where
         split : (later : List Cell) → so-far .left ≡ c ∷ later → so-far .done ++ so-far .left ≡ (so-far .done ++ (c ∷ [])) ++ later
         split later first = rw first (sym (append-assoc (so-far .done) (c ∷ []) later))
@@ -104,18 +104,18 @@ module _ {w : List ℤ} {bytes : List ℕ} {n : ℕ} (can : CanPutSheet w bytes 
         }
 
     -- a cell is left as long as not all are written
-    pub put-goes-on : k < n → NextLive w last None → ⊥
-    put-goes-on lt next =
+    pub putting-goes-on : k < n → NextLive w last None → ⊥
+    putting-goes-on lt next =
         let none = leafed-none (so-far .goes-on) (steps-sound (can .sound) last None next) in
         omega (arith, so-far .all, so-far .count, length-append (so-far .done) (so-far .left), ap length none)
 
-    pub put-all : n ≤ k → PutsSheet w bytes n t
-    put-all le = record {
+    pub putting-all : n ≤ k → PutsSheet w bytes n t
+    putting-all le = record {
       cells = so-far .done;
       leafed = subst (Leafed w (pos 0)) whole (so-far .leafed);
       count = many;
       is = rw many (sheet-put (so-far .so-put) (sym many));
-      as-long = so-far .so-put .long;
+      as-long = put-long (so-far .so-put);
     }
       where
         none-left : (l : List Cell) → length (so-far .done ++ l) ≤ length (so-far .done) → l ≡ []

@@ -6,13 +6,14 @@ use native.Mathlib.Omega.{arith}
 use lib.IntN.{ℤ}
 use lib.ListN.{length, take, drop}
 use lib.Seq.{take-append-le, take-all}
+use Rattle.track.specs.Numbers.{mostCells}
 use Rattle.track.specs.Life.{LivesAt}
 use Rattle.track.specs.declared.cell.Cell.{Cell}
 use Rattle.whole.specs.Lists.{_∈_}
 use Rattle.table.specs.Header.{clock}
 use Rattle.table.specs.Sound.{Sound, Live}
-use Rattle.table.specs.Inner.SoundBy.{held-in}
-use Rattle.sheet.specs.Sheet.{headerBytes, mostCells, totalFor, sheetOf, cellsOf}
+use Rattle.table.specs.Laws.SoundBy.{held-in}
+use Rattle.sheet.specs.Sheet.{headerBytes, totalFor, sheetOf, cellsOf}
 use Rattle.sheet.specs.Laws.Sheet.{length-sheetOf, clock-of-sheet, cells-of-sheet, sheet-sound}
 use Rattle.sheet.specs.WellFormed.{CellsSound}
 use Rattle.leafing.specs.Leafed.{LiveCells}

@@ -7,7 +7,6 @@ use lib.ListN.{length, getD}
 use Rattle.table.specs.Header.{nodesFor, wordsFor}
 
 pub record Ready (w : List ℤ) (cells node : ℕ) (marks keys : List ℕ) (m : ℕ) : Type 0 where
-  pub few : cells ≤ 65536
   pub long : wordsFor cells ≤ length w
   pub node-in : node < nodesFor cells
   pub marks-long : nodesFor cells ≤ length marks

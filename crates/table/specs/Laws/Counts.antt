@@ -43,10 +43,6 @@ module _ (N : Nodes) (cells : ℕ) (clock : ℤ) where
       → 2 * length (nodesOf N h (childOf e)) + 1 ≤ length (leavesOf N h (childOf e))
   few-below h e s tree = omega (arith, s .filled, few-nodes h (childOf e) tree)
 
-  -- below a root with two entries at least twice as many
-  pub few-reached : (h i : ℕ) → TreeSound N cells clock h i → 2 ≤ length (N i) → 2 * length (nodesOf N h i) ≤ length (leavesOf N h i)
-  few-reached h i tree two = omega (arith, few-nodes h i tree)
-
 -- ---- a number that does not stand in a list, below any number above its length
 -- the numbers below n
 below : ℕ → List ℕ

@@ -1,4 +1,4 @@
--- Laws of `Frame`.
+-- The frame law: nodes with the same entries have the same beneath them and are sound alike; and a sound tree stays sound as the clock goes on.
 use mathlib.Core.Path.{_≡_, refl, ap, ap₂}
 use mathlib.Core.List.{List, [], _∷_, _++_, flatMap, List·Memᴰ·head, List·Memᴰ·tail}
 use Prim.Native.Nat.{ℕ, zero, suc}

@@ -42,12 +42,3 @@ module _ (N : Nodes) where
   pub node-down : (h i : ℕ) {j : ℕ} → j ∈ nodesOf N (suc h) i → (j ≡ i) ⊎ ((e : Entry) × e ∈ N i × j ∈ nodesOf N h (childOf e))
   unfolding nodesOf
   node-down h i m = ⊎-elim inl (λ n. inr (flat-in (λ e. nodesOf N h (childOf e)) (N i) n)) (List·Memᴰ·cases-cons m)
-
-  -- ---- a leaf entry stands in a node that is reached
-  pub leaf-node : (h i : ℕ) {f : Entry} → f ∈ leavesOf N h i → (j : ℕ) × j ∈ nodesOf N h i × f ∈ N j
-  unfolding leavesOf
-  leaf-node zero i m = (i, node-self zero i, m)
-  leaf-node (suc h) i m =
-      let e = flat-in (λ e. leavesOf N h (childOf e)) (N i) m in
-      let r = leaf-node h (childOf (e .0)) (e .2) in
-      (r .0, node-up h i (e .1) (r .1), r .2)

@@ -1,4 +1,4 @@
--- Laws of `Ready`.
+-- The pass over a node of the table: what it needs stays so from entry to entry, and how its loop goes on and ends.
 use mathlib.Core.Path.{_≡_, refl, ap, _∙_}
 use mathlib.Core.Bool.{Bool, true, false, not}
 use mathlib.Core.List.{List, [], _∷_}
@@ -14,8 +14,9 @@ use Rattle.node.specs.Entry.{Entry, childOf, entryCount, entriesOf}
 use Rattle.node.specs.Laws.Entry.{entries-next, length-entriesOf}
 use Rattle.table.specs.Header.{nodesFor, entriesAt}
 use Rattle.table.specs.SoundTree.{Nodes}
-use Rattle.table.specs.Laws.ScanParts.{node-below}
-use Rattle.table.specs.Inner.Scan.{EntryTaken, Entered, NodeCounted, Outcome, way-none, way-untaken, way-taken, way-unentered, way-entered-bad, way-entered}
+use Rattle.table.specs.Laws.Header.{node-below}
+use Rattle.table.specs.Inner.Scan.{EntryTaken, Entered, NodeCounted, PassOutcome}
+use Rattle.table.specs.Laws.Scan.{way-none, way-untaken, way-taken, way-unentered, way-entered-bad, way-entered}
 use Rattle.table.specs.Inner.Ready.{Ready}
 use Rattle.table.specs.declared.scan.Scan.{Scan}
 use Rattle.table.specs.declared.scan.Scan.the-variants.{Passed, Bad}
@@ -33,7 +34,7 @@ pub ready-taken : {w : List ℤ} {cells node : ℕ} {marks keys : List ℕ} {m :
 ready-taken {keys} {keys₁} y t f =
     let g = t .taken (not-false f) in
     let l : length keys₁ ≡ length keys = ap length (g .2) ∙ simp length-set in
-    record { few = y .few; long = y .long; node-in = y .node-in; marks-long = y .marks-long; keys-long = omega (arith, y .keys-long); low = y .low; room = omega (arith, g .1) }
+    record { long = y .long; node-in = y .node-in; marks-long = y .marks-long; keys-long = omega (arith, y .keys-long); low = y .low; room = omega (arith, g .1) }
 
 module _ {w : List ℤ} {N : Nodes} {C : ℕ → Type 0} {cells : ℕ} {clock : ℤ} {node : ℕ} {marks keys : List ℕ} {m : ℕ} (y : Ready w cells node marks keys m) where
   pub child-marked : {h : ℕ} {d : Entry} {r : Bool} {marks₁ : List ℕ} → Entered N C cells clock h d marks r marks₁ → not r ≡ false → childOf d < length marks
@@ -44,7 +45,6 @@ module _ {w : List ℤ} {N : Nodes} {C : ℕ → Type 0} {cells : ℕ} {clock : 
       let g = t .entered (not-false f) in
       let l : length marks₁ ≡ length marks = ap length (g .3) ∙ simp length-set in
       record {
-        few = y .few;
         long = y .long;
         node-in = omega (arith, node-below (g .0 .child-in));
         marks-long = omega (arith, y .marks-long);
@@ -53,11 +53,10 @@ module _ {w : List ℤ} {N : Nodes} {C : ℕ → Type 0} {cells : ℕ} {clock : 
         room = y .room;
       }
 
-  pub ready-passed : {h : ℕ} {es : List Entry} {m₁ : ℕ} {node₁ : ℕ} {marks₁ keys₁ : List ℕ} → node₁ < nodesFor cells → Outcome N C cells clock h es marks keys m (Passed m₁) marks₁ keys₁ → Ready w cells node₁ marks₁ keys₁ m₁
+  pub ready-passed : {h : ℕ} {es : List Entry} {m₁ : ℕ} {node₁ : ℕ} {marks₁ keys₁ : List ℕ} → node₁ < nodesFor cells → PassOutcome N C cells clock h es marks keys m (Passed m₁) marks₁ keys₁ → Ready w cells node₁ marks₁ keys₁ m₁
   ready-passed {m₁} n o =
       let p = o .pass m₁ refl in
       record {
-        few = y .few;
         long = y .long;
         node-in = n;
         marks-long = omega (arith, y .marks-long, o .marks-kept);
@@ -81,19 +80,19 @@ pub record EntriesLeft (w : List ℤ) (cells : ℕ) (clock : ℤ) (h node : ℕ)
   pub ready : Ready w cells node marks keys m
   pub marks-kept : length marks ≡ length marks₀
   pub keys-kept : length keys ≡ length keys₀
-  pub rest : (r : Scan) (marks′ keys′ : List ℕ) → Outcome (entriesAt w) (NodeCounted w) cells clock h (drop k (entriesAt w node)) marks keys m r marks′ keys′
-      → Outcome (entriesAt w) (NodeCounted w) cells clock h (entriesAt w node) marks₀ keys₀ m₀ r marks′ keys′
+  pub rest : (r : Scan) (marks′ keys′ : List ℕ) → PassOutcome (entriesAt w) (NodeCounted w) cells clock h (drop k (entriesAt w node)) marks keys m r marks′ keys′
+      → PassOutcome (entriesAt w) (NodeCounted w) cells clock h (entriesAt w node) marks₀ keys₀ m₀ r marks′ keys′
 
 pub left-none : {w : List ℤ} {cells : ℕ} {clock : ℤ} {h node : ℕ} {marks keys : List ℕ} {m : ℕ} → Ready w cells node marks keys m → EntriesLeft w cells clock h node marks keys m 0 marks keys m
 left-none y = record { ready = y; marks-kept = refl; keys-kept = refl; rest = λ r marks′ keys′ o. o }
 
 module _ {w : List ℤ} {cells : ℕ} {clock : ℤ} {h node : ℕ} {marks₀ keys₀ : List ℕ} {m₀ k : ℕ} {marks keys : List ℕ} {m : ℕ} (l : EntriesLeft w cells clock h node marks₀ keys₀ m₀ k marks keys m) {n : List ℤ} {c : ℕ} (is : n ≡ nodeAt w node) (many : c ≡ entryCount n) where
-  pub left-all : c ≤ k → Outcome (entriesAt w) (NodeCounted w) cells clock h (entriesAt w node) marks₀ keys₀ m₀ (Passed m) marks keys
+  pub left-all : c ≤ k → PassOutcome (entriesAt w) (NodeCounted w) cells clock h (entriesAt w node) marks₀ keys₀ m₀ (Passed m) marks keys
   left-all le = l .rest _ _ _ (way-none h _ marks keys m (no-entry w node k n c is many le) (l .ready .low) (l .ready .room))
 
   module _ (lt : k < c) {r : Bool} where
     module _ (z : h ≡ 0) {keys₁ : List ℕ} (t : EntryTaken cells (entryAt n k) keys m r keys₁) where
-      pub left-untaken : not r ≡ true → Outcome (entriesAt w) (NodeCounted w) cells clock h (entriesAt w node) marks₀ keys₀ m₀ Bad marks keys₁
+      pub left-untaken : not r ≡ true → PassOutcome (entriesAt w) (NodeCounted w) cells clock h (entriesAt w node) marks₀ keys₀ m₀ Bad marks keys₁
       left-untaken f = l .rest _ _ _ (way-untaken h _ _ _ marks keys m _ _ z (next-entry w node k n c is many lt) t f)
 
       pub left-taken : not r ≡ false → EntriesLeft w cells clock h node marks₀ keys₀ m₀ (k + 1) marks keys₁ (m + 1)
@@ -105,11 +104,11 @@ module _ {w : List ℤ} {cells : ℕ} {clock : ℤ} {h node : ℕ} {marks₀ key
       }
 
     module _ (z : h ≡ 0 → ⊥) {marks₁ : List ℕ} (t : Entered (entriesAt w) (NodeCounted w) cells clock (h - 1) (entryAt n k) marks r marks₁) where
-      pub left-unentered : not r ≡ true → Outcome (entriesAt w) (NodeCounted w) cells clock h (entriesAt w node) marks₀ keys₀ m₀ Bad marks₁ keys
+      pub left-unentered : not r ≡ true → PassOutcome (entriesAt w) (NodeCounted w) cells clock h (entriesAt w node) marks₀ keys₀ m₀ Bad marks₁ keys
       left-unentered f = l .rest _ _ _ (way-unentered h _ _ _ marks keys m _ _ z (next-entry w node k n c is many lt) t f)
 
-      module _ (f : not r ≡ false) {b : ℕ} (child : b ≡ childOf (entryAt n k)) {q : Scan} {marks₂ keys₂ : List ℕ} (o : Outcome (entriesAt w) (NodeCounted w) cells clock (h - 1) (entriesAt w b) marks₁ keys m q marks₂ keys₂) where
-        pub left-bad : q ≡ Bad → Outcome (entriesAt w) (NodeCounted w) cells clock h (entriesAt w node) marks₀ keys₀ m₀ Bad marks₂ keys₂
+      module _ (f : not r ≡ false) {b : ℕ} (child : b ≡ childOf (entryAt n k)) {q : Scan} {marks₂ keys₂ : List ℕ} (o : PassOutcome (entriesAt w) (NodeCounted w) cells clock (h - 1) (entriesAt w b) marks₁ keys m q marks₂ keys₂) where
+        pub left-bad : q ≡ Bad → PassOutcome (entriesAt w) (NodeCounted w) cells clock h (entriesAt w node) marks₀ keys₀ m₀ Bad marks₂ keys₂
         left-bad e = l .rest _ _ _ (way-entered-bad h _ _ _ marks keys m _ _ _ _ z (next-entry w node k n c is many lt) t f (child-marked (l .ready) t f) (rw (child, e) at o))
 
         pub left-passed : {m₂ : ℕ} → q ≡ Passed m₂ → EntriesLeft w cells clock h node marks₀ keys₀ m₀ (k + 1) marks₂ keys₂ m₂

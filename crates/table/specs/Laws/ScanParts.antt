@@ -1,4 +1,4 @@
--- Laws of `ScanParts`.
+-- What the soundness test sees of one entry: its child, its stamp, the stamps beneath it; and one law for each way through the code.
 use mathlib.Core.Path.{_≡_, refl, subst}
 use mathlib.Core.List.{List, []}
 use Prim.Native.Nat.{ℕ, zero, suc, _+_, _≤_, _<_}
@@ -6,19 +6,19 @@ use native.Mathlib.Omega.{arith}
 use native.Mathlib.Nat.{not-suc-le-zero}
 use borrow.Author.Count.{below-more}
 use borrow.Author.Tests.{ne-eqb}
-use lib.Dec.{eqb, ltb, ltb→lt, leb, leb→le, le→leb}
-use lib.IntN.{ℤ, pos}
+use lib.Dec.{eqb, leb, leb→le, le→leb}
+use lib.IntN.{ℤ}
 use lib.ListN.{length, getD}
 use lib.Signed.{_≤ℤ_, _<ℤ_, clashℤ}
 use Rattle.whole.specs.Laws.Lists.{in-at}
 use Rattle.whole.specs.Tells.{Tells}
 use Rattle.words.specs.Layout.{entryAt, nodeAt, InTable}
 use Rattle.words.specs.Words.{natOf}
-use Rattle.words.specs.Laws.Words.{pos-natOf}
 use Rattle.node.specs.Entry.{Entry, childWord, childOf, stampOf, entryCount, entriesOf}
 use Rattle.node.specs.Laws.Entry.{entry-is, entry-in, length-entriesOf}
 use Rattle.node.specs.WorkedOut.{WorkedOut}
-use Rattle.table.specs.Header.{IsNode, nodesFor, wordsFor, entriesAt}
+use Rattle.table.specs.Header.{IsNode, wordsFor, entriesAt}
+use Rattle.table.specs.Laws.Header.{node-below}
 use Rattle.table.specs.SoundTree.{Nodes, isLeaf, NotBefore, EntrySound}
 use Rattle.table.specs.Inner.ScanParts.{ChildSound, NoneAfter, StampSound}
 
@@ -43,26 +43,7 @@ stamp-sound {N} {h} {e} s = record { stamp-in = s .stamp-in; stamped = s .stampe
     by zero b z = absurd (z refl)
     by (suc h) b z = record { none = b }
 
--- a node's number is below the number of nodes
-pub node-below : {cells : ℕ} {z : ℤ} → IsNode cells z → natOf z < nodesFor cells
-node-below {cells} {z} n = below (rw (← pos-natOf z (n .from)) at (n .to))
-  where
-    below : pos (natOf z) <ℤ pos (nodesFor cells) → natOf z < nodesFor cells
-    below h = ltb→lt (natOf z) (nodesFor cells) (h .lt)
-
 -- ---- the ways through the code
-pub is-node-low : {cells : ℕ} {z : ℤ} → z <ℤ pos 0 → IsNode cells z → ⊥
-is-node-low h n = clashℤ h (n .from)
-
-pub is-node-tells : (cells n : ℕ) (z : ℤ) → pos 0 ≤ℤ z → n ≡ natOf z → Tells (ltb n (nodesFor cells)) (IsNode cells z)
-is-node-tells cells n z h e = record {
-  sure = λ t. record { from = h; to = rw (← pos-natOf z h, ← e) (record { lt = t }) };
-  seen = λ i. rw e (below i .lt);
-}
-  where
-    below : IsNode cells z → pos (natOf z) <ℤ pos (nodesFor cells)
-    below i = rw (pos-natOf z h) (i .to)
-
 -- the first k of the entries have no stamp after `last`
 pub record NoneBefore (es : List Entry) (k : ℕ) (last : ℤ) : Type 0 where
   pub none : (j : ℕ) → j < k → stampOf (getD es j []) ≤ℤ last

@@ -13,6 +13,7 @@ use Rattle.track.specs.Meets.{CellMeets}
 use Rattle.track.specs.Answer.{meetingReasons, meetingAnswers, answersTo, refusalOf}
 use Rattle.track.specs.declared.cell.Cell.{Cell}
 use Rattle.track.specs.declared.cell.Reported.{Reported}
+use Rattle.track.specs.declared.report.Report.{Report}
 use Rattle.track.specs.declared.cell.Reported.the-variants as reported
 use Rattle.track.specs.declared.queries.Query.{Query}
 use Rattle.track.specs.declared.queries.Asked.{Asked}
@@ -24,16 +25,16 @@ tells-refusal : (r : Reported) (a : Asked) (n : ℕ) {z : ℤ} → refusalOf r a
 tells-refusal r a n e none is = record { number = n; is = is; first = inl (λ f. none (sym e ∙ f), sym e) }
 
 module _ {r : Reported} {a : Asked} where
-  pub tells-yes : {c : Cell} {k : Query} → r ≡ reported.Kept c → a ≡ asked.Taken k → CellMeets c k → Gives (answersTo r a) (pos 1)
+  pub tells-yes : {c : Cell} {q : Query} → r ≡ reported.Kept c → a ≡ asked.Taken q → CellMeets c q → Gives (answersTo r a) (pos 1)
   tells-yes e f m = rw (e, f) (record { number = 1; is = refl; first = inr (λ n. n refl, inl (m, refl)) })
 
-  pub tells-no : {c : Cell} {k : Query} → r ≡ reported.Kept c → a ≡ asked.Taken k → (CellMeets c k → ⊥) → Gives (answersTo r a) (pos 0)
+  pub tells-no : {c : Cell} {q : Query} → r ≡ reported.Kept c → a ≡ asked.Taken q → (CellMeets c q → ⊥) → Gives (answersTo r a) (pos 0)
   tells-no e f m = rw (e, f) (record { number = 0; is = refl; first = inr (λ n. n refl, inr (m, refl)) })
 
   pub tells-asked : {c : Cell} {why : Refusal} {z : ℤ} → r ≡ reported.Kept c → a ≡ asked.Refused why → z ≡ pos (number why) → Gives (answersTo r a) z
   tells-asked {why} e f = tells-refusal r a (number why) (ap₂ refusalOf e f) (refused-not-zero why)
 
-  pub tells-reported : {why : Refusal} {k : Query} {z : ℤ} → r ≡ reported.Refused why → a ≡ asked.Taken k → z ≡ pos (number why) → Gives (answersTo r a) z
+  pub tells-reported : {why : Refusal} {q : Query} {z : ℤ} → r ≡ reported.Refused why → a ≡ asked.Taken q → z ≡ pos (number why) → Gives (answersTo r a) z
   tells-reported {why} e f = tells-refusal r a (number why) (ap₂ refusalOf e f ∙ alone (number why)) (refused-not-zero why)
     where
       alone : (n : ℕ) → firstGiven n 0 ≡ n
@@ -53,9 +54,9 @@ zero-stable (suc n) f = absurd (f (not-zero n))
 in-both : {P Q : Type 0} → ((P → ⊥) → ⊥) → ((Q → ⊥) → ⊥) → (P × Q → ⊥) → ⊥
 in-both d i f = d (λ p. i (λ q. f (p, q)))
 
-module _ {id x y vx vy minute expiry : ℤ} {Backward : Type 0} {k : Query} where
+module _ {report : Report} {Backward : Type 0} {q : Query} where
   -- a report in range is never before the first minute, so 5 is the query's alone
-  joined : {m n : ℕ} → First (reportReasons (pos 0) id x y vx vy minute expiry) m → First (queryReasons minute Backward k) n → First (meetingReasons id x y vx vy minute expiry Backward k) (firstGiven m n)
+  joined : {m n : ℕ} → First (reportReasons (pos 0) report) m → First (queryReasons (report .minute) Backward q) n → First (meetingReasons report Backward q) (firstGiven m n)
   joined (inl g) (inl h) = inl (λ both. g .0 (both .0), ap₂ firstGiven (g .1) (h .1))
   joined (inl g) (inr (i, inl h)) = inl (λ both. g .0 (both .0), ap₂ firstGiven (g .1) (h .1))
   joined (inl g) (inr (i, inr (j, inl h))) = inl (λ both. g .0 (both .0), ap₂ firstGiven (g .1) (h .1))
@@ -71,21 +72,20 @@ module _ {id x y vx vy minute expiry : ℤ} {Backward : Type 0} {k : Query} wher
   joined (inr (d, inr (e, inr g))) (inr (i, inr (j, inr h))) = inr (in-both d i, inr (j, inr (g .0, inr (h .0, ap₂ firstGiven (g .1) (h .1)))))
 
   -- what the answers were is what the numbers say
-  as-handed-over : {r : Reported} {a : Asked} {n : ℕ} → Reports (pos 0) id x y vx vy minute expiry r → Asks minute Backward k a → First (answersTo r a) n
-      → First (refusalOf r a when (refusalOf r a ≡ 0 → ⊥) ∷ 1 when CellMeets (keptCell id x y vx vy minute expiry) k ∷ []) n
+  as-handed-over : {r : Reported} {a : Asked} {n : ℕ} → Reports (pos 0) report r → Asks (report .minute) Backward q a → First (answersTo r a) n
+      → First (refusalOf r a when (refusalOf r a ≡ 0 → ⊥) ∷ 1 when CellMeets (keptCell report) q ∷ []) n
   as-handed-over g h (inl i) = inl i
   as-handed-over {r} {a} {n} g h (inr i) =
       let none = none-given (reportNumber r) (askedNumber a) (zero-stable (refusalOf r a) (i .0)) in
       let c = g .cell (none .0) in
-      let q = h .query (none .1) in
-      inr (i .0, rw (c, q) at (i .1))
+      inr (i .0, rw (c, h .query (none .1)) at (i .1))
 
-  pub answered : {r : Reported} {a : Asked} {z : ℤ} → Reports (pos 0) id x y vx vy minute expiry r → Asks minute Backward k a → Gives (answersTo r a) z → Gives (meetingAnswers id x y vx vy minute expiry Backward k) z
+  pub answered : {r : Reported} {a : Asked} {z : ℤ} → Reports (pos 0) report r → Asks (report .minute) Backward q a → Gives (answersTo r a) z → Gives (meetingAnswers report Backward q) z
   answered {r} {a} g h t = record {
     number = t .number;
     is = t .is;
     first =
-        first-then (meetingReasons id x y vx vy minute expiry Backward k) (1 when CellMeets (keptCell id x y vx vy minute expiry) k ∷ []) (refusalOf r a) (t .number)
+        first-then (meetingReasons report Backward q) (1 when CellMeets (keptCell report) q ∷ []) (refusalOf r a) (t .number)
         (not-zero 3, (not-zero 4, (not-zero 5, (not-zero 6, tt))))
         (joined (g .refusal) (h .refusal))
         (as-handed-over g h (t .first));

@@ -135,11 +135,11 @@ module _ {stamp : ℤ} {h s : Row} (c : Covers stamp h s) (t : Instant) (late : 
   high-covers = stays-below (high s) (highVelocity s) (high h) (highVelocity h) stamp (t .p) (t .q) positive (c .high-edge) (c .high-velocity) late
 
 -- ---- in a query's words
-pub span-positive : (k : Query) → pos 1 ≤ℤ span k
+pub span-positive : (q : Query) → pos 1 ≤ℤ span q
 unfolding span
-span-positive k = by (ltZ (k .end .at -ℤ k .start .at) (pos 1)) refl
+span-positive q = by (ltZ (q .end .at -ℤ q .start .at) (pos 1)) refl
   where
-    by : (f : Bool) → ltZ (k .end .at -ℤ k .start .at) (pos 1) ≡ f → pos 1 ≤ℤ cond f (pos 1) (k .end .at -ℤ k .start .at)
+    by : (f : Bool) → ltZ (q .end .at -ℤ q .start .at) (pos 1) ≡ f → pos 1 ≤ℤ cond f (pos 1) (q .end .at -ℤ q .start .at)
     by true e = ≤ℤ-refl (pos 1)
     by false e = ltZ-false e
 
@@ -147,8 +147,8 @@ scaled : (d a b : ℤ) → pos 1 ≤ℤ d → a ≤ℤ b → (d *ℤ a) ≤ℤ (
 scaled d a b h k = rw (*ℤ-comm d a, *ℤ-comm d b) (*ℤ-mono a b d k (≤ℤ-trans (leZ-yes tt) h))
 
 -- where a row touches, so does any that covers it
-pub covers-touches : {stamp : ℤ} {h s : Row} → Covers stamp h s → (k : Query) (e : Edges) (t : Instant) → (stamp *ℤ t .q) ≤ℤ t .p → Touches k e s t → Touches k e h t
-covers-touches c k e t late m = record {
-  below = ≤ℤ-trans (scaled (span k) _ _ (span-positive k) (low-covers c t late)) (m .below);
-  above = ≤ℤ-trans (m .above) (scaled (span k) _ _ (span-positive k) (high-covers c t late));
+pub covers-touches : {stamp : ℤ} {h s : Row} → Covers stamp h s → (q : Query) (e : Edges) (t : Instant) → (stamp *ℤ t .q) ≤ℤ t .p → Touches q e s t → Touches q e h t
+covers-touches c q e t late m = record {
+  below = ≤ℤ-trans (scaled (span q) _ _ (span-positive q) (low-covers c t late)) (m .below);
+  above = ≤ℤ-trans (m .above) (scaled (span q) _ _ (span-positive q) (high-covers c t late));
 }

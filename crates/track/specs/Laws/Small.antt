@@ -69,22 +69,22 @@ along-small start span e r i s d he hr hi =
     let over = turned-small (gap-small s d (he .low-in) (he .low2-in) (hr .high-in) (hr .high-velocity-in)) in
     cut-small _ _ _ (cut-small i _ _ hi (under .a-in) (under .b-in)) (over .a-in) (over .b-in)
 
-pub whole-small : {k : Query} → QueryInRange k → Small (wholeOf k)
+pub whole-small : {q : Query} → QueryInRange q → Small (wholeOf q)
 whole-small h = record { lo-in = widen tt (minute-in (h .start-in)); lod-in = lit-in 1 tt; hi-in = widen tt (minute-in (h .end-in)); hid-in = lit-in 1 tt }
 
 -- between two minutes there are at most 1,440
 apart-below : (a b : ℤ) → pos 0 ≤ℤ a → b ≤ℤ pos 1440 → (b -ℤ a) ≤ℤ pos 1440
 apart-below = all2 _ λ _ _ _ _. simp difs (omega arith)
 
-pub span-in : {k : Query} → QueryInRange k → Within 1440 (span k)
+pub span-in : {q : Query} → QueryInRange q → Within 1440 (span q)
 unfolding span
-span-in {k} h = by (ltZ (k .end .at -ℤ k .start .at) (pos 1)) refl
+span-in {q} h = by (ltZ (q .end .at -ℤ q .start .at) (pos 1)) refl
   where
-    by : (f : Bool) → ltZ (k .end .at -ℤ k .start .at) (pos 1) ≡ f → Within 1440 (cond f (pos 1) (k .end .at -ℤ k .start .at))
+    by : (f : Bool) → ltZ (q .end .at -ℤ q .start .at) (pos 1) ≡ f → Within 1440 (cond f (pos 1) (q .end .at -ℤ q .start .at))
     by true e = lit-in 1 tt
-    by false e = from-zero (≤ℤ-trans (leZ-yes tt) (ltZ-false e)) (apart-below (k .start .at) (k .end .at) (h .start-in .from) (h .end-in .to))
+    by false e = from-zero (≤ℤ-trans (leZ-yes tt) (ltZ-false e)) (apart-below (q .start .at) (q .end .at) (h .start-in .from) (h .end-in .to))
 
-pub meeting-small : {b : Bounds} {k : Query} → BoundsInRange b → QueryInRange k → Small (meetingOf b k)
+pub meeting-small : {b : Bounds} {q : Query} → BoundsInRange b → QueryInRange q → Small (meetingOf b q)
 unfolding meetingOf
 meeting-small hb hk =
     let s = minute-in (hk .start-in) in

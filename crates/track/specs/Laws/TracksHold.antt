@@ -31,35 +31,35 @@ both-split : (a b : Bool) → T (both a b) → T a × T b
 both-split true b t = (tt, t)
 both-split false b t = absurd t
 
-abbrev same : ℤ → ℤ → Bool
-same a b = both (leZ a b) (leZ b a)
+abbrev sameNumber : ℤ → ℤ → Bool
+sameNumber a b = both (leZ a b) (leZ b a)
 
-same-eq : (a b : ℤ) → T (same a b) → a ≡ b
+same-eq : (a b : ℤ) → T (sameNumber a b) → a ≡ b
 same-eq a b t = let h = both-split (leZ a b) (leZ b a) t in ≤ℤ-antisym a b (leZ-yes (h .0)) (leZ-yes (h .1))
 
 abbrev sameRow : Row → Row → Bool
 sameRow [] [] = true
 sameRow [] (b ∷ bs) = false
 sameRow (a ∷ as′) [] = false
-sameRow (a ∷ as′) (b ∷ bs) = both (same a b) (sameRow as′ bs)
+sameRow (a ∷ as′) (b ∷ bs) = both (sameNumber a b) (sameRow as′ bs)
 
 same-row-eq : (r s : Row) → T (sameRow r s) → r ≡ s
 same-row-eq [] [] t = refl
 same-row-eq [] (b ∷ bs) t = absurd t
 same-row-eq (a ∷ as′) [] t = absurd t
 same-row-eq (a ∷ as′) (b ∷ bs) t =
-    let h = both-split (same a b) (sameRow as′ bs) t in
+    let h = both-split (sameNumber a b) (sameRow as′ bs) t in
     ap₂ (λ (z : ℤ) (zs : Row). z ∷ zs) (same-eq a b (h .0)) (same-row-eq as′ bs (h .1))
 
--- ---- an interval and a stretch whose ends are the same fractions
-times : (a b : ℤ) → pos 0 ≤ℤ a → pos 0 ≤ℤ b → pos 0 ≤ℤ (a *ℤ b)
-times = all2 _ λ _ _ _ _. simp difs (λ h k. omega (arith, cross h k))
+-- ---- an interval and a stretch whose ends are the sameNumber fractions
+times-not-negative : (a b : ℤ) → pos 0 ≤ℤ a → pos 0 ≤ℤ b → pos 0 ≤ℤ (a *ℤ b)
+times-not-negative = all2 _ λ _ _ _ _. simp difs (λ h k. omega (arith, cross h k))
 
 -- two differences of which one is the other by a fraction above 0
 scaled : (d e x y : ℤ) → pos 1 ≤ℤ d → pos 1 ≤ℤ e → d *ℤ y ≡ e *ℤ x → pos 0 ≤ℤ x → pos 0 ≤ℤ y
-scaled d e x y h k eq n = cancel d y h (rw eq (times e x (≤ℤ-trans (leZ-yes tt) k) n))
+scaled d e x y h k eq n = cancel d y h (rw eq (times-not-negative e x (≤ℤ-trans (leZ-yes tt) k) n))
 
--- n/d and m/e are the same: what is not before the one is not before the other, and what is not after it neither
+-- n/d and m/e are the sameNumber: what is not before the one is not before the other, and what is not after it neither
 module _ (n d m e : ℤ) (h : pos 1 ≤ℤ d) (k : pos 1 ≤ℤ e) (eq : n *ℤ e ≡ m *ℤ d) (p q : ℤ) where
   low-end : (n *ℤ q) ≤ℤ (p *ℤ d) → (m *ℤ q) ≤ℤ (p *ℤ e)
   low-end l = of-gap _ _ (scaled d e (p *ℤ d -ℤ n *ℤ q) (p *ℤ e -ℤ m *ℤ q) h k (left ∙ rw (← eq) (sym right)) (gap-of _ _ l))
@@ -80,11 +80,11 @@ module _ (n d m e : ℤ) (h : pos 1 ≤ℤ d) (k : pos 1 ≤ℤ e) (eq : n *ℤ 
       right = simp ring
 
 abbrev sameEnds : Interval → Stretch → Bool
-sameEnds i (first to last) = both (same (i .lo *ℤ first .q) (first .p *ℤ i .lod)) (same (i .hi *ℤ last .q) (last .p *ℤ i .hid))
+sameEnds i (first to last) = both (sameNumber (i .lo *ℤ first .q) (first .p *ℤ i .lod)) (sameNumber (i .hi *ℤ last .q) (last .p *ℤ i .hid))
 
 stretch-law : (i : Interval) (s : Stretch) → Proper i → T (sameEnds i s) → (t : Instant) → Inside i t ↔ During s t
 stretch-law i (first to last) proper same-ends t =
-    let split = both-split (same (i .lo *ℤ first .q) (first .p *ℤ i .lod)) (same (i .hi *ℤ last .q) (last .p *ℤ i .hid)) same-ends in
+    let split = both-split (sameNumber (i .lo *ℤ first .q) (first .p *ℤ i .lod)) (sameNumber (i .hi *ℤ last .q) (last .p *ℤ i .hid)) same-ends in
     let low = same-eq (i .lo *ℤ first .q) (first .p *ℤ i .lod) (split .0) in
     let high = same-eq (i .hi *ℤ last .q) (last .p *ℤ i .hid) (split .1) in (
       λ m. (
@@ -107,10 +107,10 @@ in-life expiry (first to last) t lives m =
     let early = in-order (t .p) (t .q) expiry (pos 1) last (t .q-positive) (leZ-yes tt) (m .1) (leZ-yes lives) in
     record { to = rw *ℤ-one at early }
 
-meets-throughout : (b : Bounds) (expiry : ℤ) (k : Query) (s : Stretch) → T (sameEnds (meetingOf b k) s) → T (livesOn expiry s) → Throughout s (MeetsAt b expiry k)
-meets-throughout b expiry k s same-ends lives t =
-    let during = meeting-law b k in
-    let ends = stretch-law (meetingOf b k) s (during .proper) same-ends in (
+meets-throughout : (b : Bounds) (expiry : ℤ) (q : Query) (s : Stretch) → T (sameEnds (meetingOf b q) s) → T (livesOn expiry s) → Throughout s (MeetsAt b expiry q)
+meets-throughout b expiry q s same-ends lives t =
+    let during = meeting-law b q in
+    let ends = stretch-law (meetingOf b q) s (during .proper) same-ends in (
       λ m.
           let at = m .0 in
           subst (During s) (m .1) (ends (at .at) .0 (during .into (at .at) (at .in-query) (at .on-x) (at .on-y))),
@@ -120,14 +120,14 @@ meets-throughout b expiry k s same-ends lives t =
     )
 
 abbrev insideTest : Query → Edges → Row → Stretch → Bool
-insideTest k e row s = sameEnds (alongTo (k .start .at) (span k) e row (wholeOf k)) s
+insideTest q e row s = sameEnds (alongTo (q .start .at) (span q) e row (wholeOf q)) s
 
-inside-throughout : (k : Query) (e : Edges) (row : Row) (s : Stretch) → T (insideTest k e row s) → Throughout s (InsideOn k e row)
-inside-throughout k e row s same-ends t =
-    let along = along-law k e row (wholeOf k) (whole-proper k) in
-    let ends = stretch-law (alongTo (k .start .at) (span k) e row (wholeOf k)) s (along .proper) same-ends t in (
-      λ m. ends .0 (along .into t (whole-law k t .1 (m .0)) (m .1)),
-      λ m. let n = along .back t (ends .1 m) in (whole-law k t .0 (n .0), n .1),
+inside-throughout : (q : Query) (e : Edges) (row : Row) (s : Stretch) → T (insideTest q e row s) → Throughout s (InsideOn q e row)
+inside-throughout q e row s same-ends t =
+    let along = along-law q e row (wholeOf q) (whole-proper q) in
+    let ends = stretch-law (alongTo (q .start .at) (span q) e row (wholeOf q)) s (along .proper) same-ends t in (
+      λ m. ends .0 (along .into t (whole-law q t .1 (m .0)) (m .1)),
+      λ m. let n = along .back t (ends .1 m) in (whole-law q t .0 (n .0), n .1),
     )
 
 missed : (b : Bool) (A : Type 0) → Tells b A → T (not b) → A → ⊥
@@ -136,35 +136,35 @@ missed false A h t a = h .seen a
 
 -- ---- the test of a claim
 abbrev test : Claim → Bool
-test (meets c k) = meetsIn (cellBounds c) (c .expiry .at) k
-test (misses c k) = not (meetsIn (cellBounds c) (c .expiry .at) k)
-test (meetsFrom c k s) =
-    both (meetsIn (cellBounds c) (c .expiry .at) k) (both (sameEnds (meetingOf (cellBounds c) k) s) (livesOn (c .expiry .at) s))
-test (missesApart c k x y) =
-    both (not (meetsIn (cellBounds c) (c .expiry .at) k))
-    (both (insideTest k (k .x) (getD (cellBounds c) 0 []) x) (insideTest k (k .y) (getD (cellBounds c) 1 []) y))
-test (keeps x v t z) = same (kept x v t) z
+test (meets c q) = meetsIn (cellBounds c) (c .expiry .at) q
+test (misses c q) = not (meetsIn (cellBounds c) (c .expiry .at) q)
+test (meetsFrom c q s) =
+    both (meetsIn (cellBounds c) (c .expiry .at) q) (both (sameEnds (meetingOf (cellBounds c) q) s) (livesOn (c .expiry .at) s))
+test (missesApart c q x y) =
+    both (not (meetsIn (cellBounds c) (c .expiry .at) q))
+    (both (insideTest q (q .x) (getD (cellBounds c) 0 []) x) (insideTest q (q .y) (getD (cellBounds c) 1 []) y))
+test (keeps x v t z) = sameNumber (kept x v t) z
 test (spans r s stamp h minute lo hi) =
-    both (sameRow (hull stamp r (s ∷ [])) h) (both (same (lowAt minute h) lo) (same (highAt minute h) hi))
+    both (sameRow (hull stamp r (s ∷ [])) h) (both (sameNumber (lowAt minute h) lo) (sameNumber (highAt minute h) hi))
 
 test-holds : (claim : Claim) → T (test claim) → Holds claim
-test-holds (meets c k) h = meets-law (cellBounds c) (c .expiry .at) k .sure h
-test-holds (misses c k) h = missed (meetsIn (cellBounds c) (c .expiry .at) k) (CellMeets c k) (meets-law (cellBounds c) (c .expiry .at) k) h
-test-holds (meetsFrom c k s) h =
-    let f = both-split (meetsIn (cellBounds c) (c .expiry .at) k) (both (sameEnds (meetingOf (cellBounds c) k) s) (livesOn (c .expiry .at) s)) h in
-    let g = both-split (sameEnds (meetingOf (cellBounds c) k) s) (livesOn (c .expiry .at) s) (f .1) in
-    (meets-law (cellBounds c) (c .expiry .at) k .sure (f .0), meets-throughout (cellBounds c) (c .expiry .at) k s (g .0) (g .1))
-test-holds (missesApart c k x y) h =
-    let f = both-split (not (meetsIn (cellBounds c) (c .expiry .at) k)) (both (insideTest k (k .x) (getD (cellBounds c) 0 []) x) (insideTest k (k .y) (getD (cellBounds c) 1 []) y)) h in
-    let g = both-split (insideTest k (k .x) (getD (cellBounds c) 0 []) x) (insideTest k (k .y) (getD (cellBounds c) 1 []) y) (f .1) in (
-      missed (meetsIn (cellBounds c) (c .expiry .at) k) (CellMeets c k) (meets-law (cellBounds c) (c .expiry .at) k) (f .0),
-      inside-throughout k (k .x) (getD (cellBounds c) 0 []) x (g .0),
-      inside-throughout k (k .y) (getD (cellBounds c) 1 []) y (g .1),
+test-holds (meets c q) h = meets-law (cellBounds c) (c .expiry .at) q .sure h
+test-holds (misses c q) h = missed (meetsIn (cellBounds c) (c .expiry .at) q) (CellMeets c q) (meets-law (cellBounds c) (c .expiry .at) q) h
+test-holds (meetsFrom c q s) h =
+    let f = both-split (meetsIn (cellBounds c) (c .expiry .at) q) (both (sameEnds (meetingOf (cellBounds c) q) s) (livesOn (c .expiry .at) s)) h in
+    let g = both-split (sameEnds (meetingOf (cellBounds c) q) s) (livesOn (c .expiry .at) s) (f .1) in
+    (meets-law (cellBounds c) (c .expiry .at) q .sure (f .0), meets-throughout (cellBounds c) (c .expiry .at) q s (g .0) (g .1))
+test-holds (missesApart c q x y) h =
+    let f = both-split (not (meetsIn (cellBounds c) (c .expiry .at) q)) (both (insideTest q (q .x) (getD (cellBounds c) 0 []) x) (insideTest q (q .y) (getD (cellBounds c) 1 []) y)) h in
+    let g = both-split (insideTest q (q .x) (getD (cellBounds c) 0 []) x) (insideTest q (q .y) (getD (cellBounds c) 1 []) y) (f .1) in (
+      missed (meetsIn (cellBounds c) (c .expiry .at) q) (CellMeets c q) (meets-law (cellBounds c) (c .expiry .at) q) (f .0),
+      inside-throughout q (q .x) (getD (cellBounds c) 0 []) x (g .0),
+      inside-throughout q (q .y) (getD (cellBounds c) 1 []) y (g .1),
     )
 test-holds (keeps x v t z) h = same-eq (kept x v t) z h
 test-holds (spans r s stamp h minute lo hi) t =
-    let f = both-split (sameRow (hull stamp r (s ∷ [])) h) (both (same (lowAt minute h) lo) (same (highAt minute h) hi)) t in
-    let g = both-split (same (lowAt minute h) lo) (same (highAt minute h) hi) (f .1) in
+    let f = both-split (sameRow (hull stamp r (s ∷ [])) h) (both (sameNumber (lowAt minute h) lo) (sameNumber (highAt minute h) hi)) t in
+    let g = both-split (sameNumber (lowAt minute h) lo) (sameNumber (highAt minute h) hi) (f .1) in
     (same-row-eq (hull stamp r (s ∷ [])) h (f .0), same-eq (lowAt minute h) lo (g .0), same-eq (highAt minute h) hi (g .1))
 
 -- ---- the whole table

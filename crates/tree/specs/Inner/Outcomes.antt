@@ -9,7 +9,6 @@ use Rattle.track.specs.Numbers.{IsMinute}
 use Rattle.track.specs.Life.{LivesAt, CellInRange}
 use Rattle.track.specs.Refusals.{_when_, First}
 use Rattle.track.specs.declared.cell.Cell.{Cell}
-use Rattle.track.specs.declared.cell.Reported.the-variants as reported
 use Rattle.table.specs.Header.{clock}
 use Rattle.table.specs.Sound.{Sound}
 use Rattle.tree.specs.Steps.{Stays, NoRoom, Step}

@@ -1,4 +1,4 @@
--- Laws of `Clear`.
+-- Cells that go are cleared out one after the other, until none is left.
 use mathlib.Core.Path.{_≡_, refl, sym, ap, subst}
 use mathlib.Core.Bool.{Bool, true, false}
 use mathlib.Core.List.{List, [], _∷_, _++_, append-assoc, List·Memᴰ·not-nil, List·Memᴰ·append-cases, List·Memᴰ·eq-of-singleton}
@@ -11,7 +11,7 @@ use Rattle.whole.specs.Laws.Tells.{true-not-false}
 use Rattle.words.specs.Words.{natOf}
 use Rattle.node.specs.Entry.{Entry, cellOf}
 use Rattle.table.specs.Header.{capacity, root, height, entriesAt}
-use Rattle.table.specs.Inner.Scan.{leaves-in}
+use Rattle.table.specs.Laws.Scan.{leaves-in}
 use Rattle.tree_laws.specs.Inner.Weights.{SameWeights}
 use Rattle.tree_laws.specs.Laws.Weights.{same-refl, same-trans, same-sym, same-append, same-length}
 use Rattle.tree_laws.specs.Laws.Moved.{moved-out}

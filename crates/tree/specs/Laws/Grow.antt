@@ -1,4 +1,4 @@
--- Laws of `Grow`.
+-- A root with room stays; a full one gets a new root above it and is parted.
 use mathlib.Core.Path.{_≡_, refl, sym, ap, _∙_, subst}
 use mathlib.Core.List.{List, [], _∷_, _++_}
 use Prim.Native.Nat.{ℕ, suc, _+_, _^_, _≤_, _<_}
@@ -31,8 +31,8 @@ use Rattle.tree_nodes.specs.Laws.FirstFree.{found-free}
 use Rattle.tree_nodes.specs.Inner.EntryAfresh.{entryAbove}
 use Rattle.tree_nodes.specs.Laws.EntryAfresh.{child-above, above-same, above-afresh, sound-in-range, is-node-at}
 use Rattle.tree_nodes.specs.Laws.Kept.{ample-in, ample-low, changed-kept, changed-here, changed-others}
-use Rattle.tree.specs.Inner.Headed.{Rooted}
-use Rattle.tree.specs.Laws.Headed.{headed-same}
+use Rattle.table.specs.Inner.Headed.{Rooted}
+use Rattle.table.specs.Laws.Headed.{headed-same}
 use Rattle.tree_laws.specs.Inner.Wholeness.{Whole}
 use Rattle.tree_laws.specs.Laws.Wholeness.{whole-fresh, whole-used, whole-two, whole-grow, grown-used, whole-mended}
 use Rattle.tree_nodes.specs.Inner.PartChild.{CanPartChild, Parted}

@@ -1,4 +1,4 @@
--- Laws of `Holding`.
+-- What stands of a table's words stands through changes put together, at a node and in the header.
 use mathlib.Core.Path.{_≡_, refl, ap, _∙_}
 use mathlib.Core.List.{List}
 use Prim.Native.Nat.{ℕ}
@@ -7,7 +7,7 @@ use lib.IntN.{ℤ}
 use Rattle.words.specs.Words.{natOf}
 use Rattle.table.specs.Header.{capacityWord, capacity}
 use Rattle.tree_nodes.specs.Inner.Kept.{Ample, Kept}
-use Rattle.tree.specs.Inner.Headed.{Headed}
+use Rattle.table.specs.Inner.Headed.{Headed}
 use Rattle.tree.specs.Inner.Holding.{Stands}
 
 pub stands-all : (cells : ℕ) (w : List ℤ) → Stands cells w w

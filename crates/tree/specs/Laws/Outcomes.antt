@@ -7,24 +7,25 @@ use native.Mathlib.Omega.{arith}
 use lib.IntN.{ℤ, pos}
 use lib.ListN.{length-map}
 use lib.Signed.{_≤ℤ_, _<ℤ_, clashℤ}
-use Rattle.whole.specs.Laws.Order.{≤ℤ-stable, not-before}
+use Rattle.whole.specs.Laws.Order.{not-before}
 use Rattle.track.specs.Life.{LivesAt, CellInRange}
 use Rattle.track.specs.Refusals.{_when_, First, number}
-use Rattle.track.specs.Laws.Refusals.{NoneZero, NoneHolds, none-holds, first-then, not-zero, refused-not-zero}
+use Rattle.track.specs.Laws.Refusals.{NoneHolds, none-holds, first-then, not-zero, refused-not-zero}
 use Rattle.track.specs.Report.{reportReasons, keptCell, reportNumber, reportCell, Reports}
-use Rattle.track.specs.Laws.Accepted.{kept-in-range}
+use Rattle.track.specs.Laws.Accepted.{minute-stable, report-none-zero, kept-in-range}
 use Rattle.track.specs.declared.cell.Cell.{Cell}
 use Rattle.track.specs.declared.cell.Reported.{Reported}
+use Rattle.track.specs.declared.report.Report.{Report}
 use Rattle.track.specs.declared.cell.Reported.the-variants as reported
 use Rattle.track.specs.declared.refusal.Refusal.{Refusal}
 use Rattle.node.specs.Entry.{cellOf}
 use Rattle.node.specs.Inner.Made.{leafEntry}
 use Rattle.table.specs.Header.{capacity, clock, root, height}
 use Rattle.table.specs.Laws.Header.{capacity-low}
-use Rattle.table.specs.Laws.ScanParts.{node-below}
+use Rattle.table.specs.Laws.Header.{node-below}
 use Rattle.table.specs.Sound.{Sound}
 use Rattle.tree.specs.Inner.Clear.{Cleared}
-use Rattle.tree.specs.Inner.Headed.{Clocked}
+use Rattle.table.specs.Inner.Headed.{Clocked}
 use Rattle.tree.specs.Inner.Holding.{leaves, Holding}
 use Rattle.tree.specs.Laws.Holding.{stands-capacity}
 use Rattle.tree.specs.Inner.PutCell.{HasRoom, PutCell}
@@ -64,52 +65,49 @@ module _ {w : List ℤ} {minute : ℤ} {c : Cell} (can : CanReport w minute c) w
     }
 
 -- ---- a report
-module _ {w : List ℤ} {id x y vx vy minute expiry : ℤ} where
-  pub report-unsound : (Sound w → ⊥) → ReportSteps w id x y vx vy minute expiry 1 w
+module _ {w : List ℤ} {r : Report} where
+  pub report-unsound : (Sound w → ⊥) → ReportSteps w r 1 w
   report-unsound n = record { refusal = inl (n, refl); accepted = not-zero 0; refused = λ m. refl }
 
-  module _ (s : Sound w) {r : Reported} (reports : Reports (clock w) id x y vx vy minute expiry r) where
-    pub report-refused : {why : Refusal} → r ≡ reported.Refused why → ReportSteps w id x y vx vy minute expiry (number why) w
+  module _ (s : Sound w) {answer : Reported} (reports : Reports (clock w) r answer) where
+    pub report-refused : {why : Refusal} → answer ≡ reported.Refused why → ReportSteps w r (number why) w
     report-refused {why} e = record {
       refusal = inr (
         λ n. n s,
-        first-then (reportReasons (clock w) id x y vx vy minute expiry) (9 when NoRoom w minute id ∷ []) (number why) (number why) none-zero
-            (subst (First (reportReasons (clock w) id x y vx vy minute expiry)) (ap reportNumber e) (reports .refusal)) (inl (refused-not-zero why, refl)),
+        first-then (reportReasons (clock w) r) (9 when NoRoom w (r .minute) (r .id) ∷ []) (number why) (number why) (report-none-zero (clock w) r)
+            (subst (First (reportReasons (clock w) r)) (ap reportNumber e) (reports .refusal)) (inl (refused-not-zero why, refl)),
       );
       accepted = λ z. absurd (refused-not-zero why z);
       refused = λ n. refl;
     }
-      where
-        none-zero : NoneZero (reportReasons (clock w) id x y vx vy minute expiry)
-        none-zero = (not-zero 3, (not-zero 4, (not-zero 5, tt)))
 
-    module _ {c : Cell} (kept : r ≡ reported.Kept c) where
-      zero-is : reportNumber r ≡ 0
+    module _ {c : Cell} (kept : answer ≡ reported.Kept c) where
+      zero-is : reportNumber answer ≡ 0
       zero-is = ap reportNumber kept
 
-      none : NoneHolds (reportReasons (clock w) id x y vx vy minute expiry)
-      none = none-holds (reportReasons (clock w) id x y vx vy minute expiry) (reportNumber r) (not-zero 3, (not-zero 4, (not-zero 5, tt))) (reports .refusal) zero-is
+      none : NoneHolds (reportReasons (clock w) r)
+      none = none-holds (reportReasons (clock w) r) (reportNumber answer) (report-none-zero (clock w) r) (reports .refusal) zero-is
 
-      cell-is : c ≡ keptCell id x y vx vy minute expiry
+      cell-is : c ≡ keptCell r
       cell-is = sym (ap reportCell kept) ∙ reports .cell zero-is
 
-      pub can-report : CanReport w minute c
+      pub can-report : CanReport w (r .minute) c
       can-report = record {
         sound = s;
-        is-minute = record { from = ≤ℤ-stable (λ n. none .0 (λ h. n (h .minute-in .from))); to = ≤ℤ-stable (λ n. none .0 (λ h. n (h .minute-in .to))) };
+        is-minute = minute-stable (λ n. none .0 (λ h. n (h .minute-in)));
         later = not-before (none .1 .0);
         in-range = subst CellInRange (ap reportCell kept) (kept-in-range reports zero-is);
-        lives = subst (LivesAt minute) (sym cell-is) (not-before (none .1 .1 .0));
+        lives = subst (LivesAt (r .minute)) (sym cell-is) (not-before (none .1 .1 .0));
       }
 
-      pub report-taken : {n : ℕ} {v : List ℤ} → CellSteps w minute c n v → ReportSteps w id x y vx vy minute expiry n v
+      pub report-taken : {n : ℕ} {v : List ℤ} → CellSteps w (r .minute) c n v → ReportSteps w r n v
       report-taken {n} {v} steps =
-          let t : CellSteps w minute (keptCell id x y vx vy minute expiry) n v = subst (λ (d : Cell). CellSteps w minute d n v) cell-is steps in
+          let t : CellSteps w (r .minute) (keptCell r) n v = subst (λ (d : Cell). CellSteps w (r .minute) d n v) cell-is steps in
           record {
             refusal = inr (
               λ m. m s,
-              first-then (reportReasons (clock w) id x y vx vy minute expiry) (9 when NoRoom w minute id ∷ []) 0 n (not-zero 3, (not-zero 4, (not-zero 5, tt)))
-                  (subst (First (reportReasons (clock w) id x y vx vy minute expiry)) zero-is (reports .refusal)) (inr (λ m. m refl, t .refusal)),
+              first-then (reportReasons (clock w) r) (9 when NoRoom w (r .minute) (r .id) ∷ []) 0 n (report-none-zero (clock w) r)
+                  (subst (First (reportReasons (clock w) r)) zero-is (reports .refusal)) (inr (λ m. m refl, t .refusal)),
             );
             accepted = t .accepted;
             refused = t .refused;

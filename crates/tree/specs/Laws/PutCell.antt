@@ -1,4 +1,4 @@
--- Laws of `PutCell`.
+-- A cell put in below the root, which has grown first where it was full.
 use mathlib.Core.Path.{_≡_, ap}
 use mathlib.Core.List.{List, [], _∷_}
 use Prim.Native.Nat.{_<_}

@@ -1,4 +1,4 @@
--- Laws of `Settle`.
+-- A root that stays, and an inner root with one entry that gives way to its child.
 use mathlib.Core.Path.{_≡_, refl, ap, _∙_}
 use mathlib.Core.List.{List, [], _∷_}
 use Prim.Native.Nat.{ℕ, suc, _^_, _≤_, _<_}
@@ -18,8 +18,8 @@ use Rattle.tree_laws.specs.Laws.Regroup.{child-other}
 use Rattle.tree_laws.specs.Laws.Root.{way-moved, way-renews}
 use Rattle.tree_nodes.specs.Laws.EntryAfresh.{is-node-at}
 use Rattle.tree_nodes.specs.Laws.Kept.{ample-in, ample-low, changed-kept, changed-here, changed-others}
-use Rattle.tree.specs.Inner.Headed.{Rooted}
-use Rattle.tree.specs.Laws.Headed.{headed-same}
+use Rattle.table.specs.Inner.Headed.{Rooted}
+use Rattle.table.specs.Laws.Headed.{headed-same}
 use Rattle.tree_laws.specs.Inner.Wholeness.{Whole}
 use Rattle.tree_laws.specs.Laws.Wholeness.{whole-way}
 use Rattle.tree_nodes.specs.Inner.PartChild.{childAt}

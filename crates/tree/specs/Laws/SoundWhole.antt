@@ -18,7 +18,7 @@ use Rattle.node.specs.Entry.{entryCountWord, entryCount, IsCount}
 use Rattle.node.specs.Laws.Entry.{count-is}
 use Rattle.table.specs.Header.{capacityWord, capacity, clock, rootWord, root, heightWord, height, IsCapacity, nodesFor, wordsFor, IsNode, entriesAt}
 use Rattle.table.specs.Sound.{Sound, reached, held}
-use Rattle.table.specs.Laws.ScanParts.{node-below}
+use Rattle.table.specs.Laws.Header.{node-below}
 use Rattle.tree_laws.specs.Inner.Weights.{visits}
 use Rattle.tree_laws.specs.Laws.Weights.{once-no-repeat, no-repeat-once}
 use Rattle.tree_laws.specs.Inner.Used.{Free}

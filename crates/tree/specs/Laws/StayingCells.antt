@@ -1,4 +1,4 @@
--- Laws of `StayingCells`.
+-- Whether as many stay as there is room for, and whether a cell is there, told by the count of those that stay.
 use mathlib.Core.Path.{_≡_, refl, sym, ap, subst}
 use mathlib.Core.Bool.{Bool, true, false}
 use mathlib.Core.Logic.{inl, inr, ⊎-elim}
@@ -22,7 +22,9 @@ use Rattle.tree_laws.specs.Laws.Weights.{sum-none, sum-cons}
 use Rattle.tree_laws.specs.Laws.Leaf.{leaf-in-range}
 use Rattle.tree.specs.Inner.Holding.{leaves}
 use Rattle.tree_laws.specs.Inner.Goes.{Goes}
-use Rattle.tree.specs.Inner.Staying.{decGoes, oneUnless, stays, goes-none, stays-one, none-goes, one-stays, stays-most, few-stay}
+use Rattle.tree_laws.specs.Laws.Goes.{decGoes}
+use Rattle.tree.specs.Inner.Staying.{oneUnless, stays}
+use Rattle.tree.specs.Laws.Staying.{goes-none, stays-one, none-goes, one-stays, stays-most, few-stay}
 use Rattle.tree.specs.Steps.{Stays, IsThere, NoRoom}
 use Rattle.tree.specs.Inner.StayingCells.{manyStay}
 

@@ -2,16 +2,15 @@
 use mathlib.Core.Path.{_≡_, refl, sym, ap, _∙_, subst}
 use mathlib.Core.Logic.{_⊎_, inl, inr, ⊎-elim}
 use mathlib.Core.List.{List, [], _∷_, _++_, map, List·Memᴰ·head, List·Memᴰ·tail, List·Memᴰ·cases-cons, List·Memᴰ·append-cases, Memᴰ·append-right, Memᴰ·map, Memᴰ·of-map, map-append}
-use Prim.Native.Nat.{ℕ, _+_, _≤_, _<_}
+use Prim.Native.Nat.{_+_, _≤_, _<_}
 use native.Mathlib.Omega.{arith}
-use lib.IntN.{ℤ, pos, ℤ-discrete}
-use lib.ListN.{length, drop, length-append, length-drop, length-map}
+use lib.IntN.{ℤ, ℤ-discrete}
+use lib.ListN.{length, drop, length-append, length-map}
 use lib.Signed.{_≤ℤ_, clashℤ}
-use lib.Seq.{ext-getD, getD-drop}
 use Rattle.whole.specs.Lists.{_∈_, NoRepeat, no-repeat-cons}
 use Rattle.whole.specs.Laws.Lists.{no-repeat-right}
 use Rattle.whole.specs.Laws.Order.{≤ℤ-or-<ℤ}
-use Rattle.words.specs.Words.{wordAt, natOf}
+use Rattle.words.specs.Words.{natOf}
 use Rattle.track.specs.Numbers.{IsMinute}
 use Rattle.track.specs.Life.{identifier, LivesAt}
 use Rattle.track.specs.declared.cell.Cell.{Cell}
@@ -24,8 +23,8 @@ use Rattle.table.specs.Sound.{Sound}
 use Rattle.tree_laws.specs.Inner.Weights.{sumOver}
 use Rattle.tree_laws.specs.Laws.Weights.{sum-none, sum-cons, sum-append, same-sym, same-length, same-map, same-entries, same-no-repeat}
 use Rattle.tree_nodes.specs.Inner.Kept.{Ample}
-use Rattle.tree.specs.Inner.Headed.{Clocked}
-use Rattle.tree.specs.Laws.Headed.{headed-same}
+use Rattle.table.specs.Inner.Headed.{Clocked}
+use Rattle.table.specs.Laws.Headed.{same-behind, headed-same}
 use Rattle.tree_laws.specs.Laws.Wholeness.{whole-later}
 use Rattle.tree.specs.Laws.SoundWhole.{WholeTree, sound-whole, Framed, whole-sound}
 use Rattle.tree.specs.Inner.Holding.{leaves, Holding, RenewsAll, Stands}
@@ -33,7 +32,8 @@ use Rattle.tree.specs.Laws.Holding.{stands-then, stands-capacity, stands
 use Rattle.tree.specs.Inner.PutCell.{PutCell}
 use Rattle.tree_laws.specs.Inner.Goes.{Goes}
 use Rattle.tree.specs.Inner.Clear.{Cleared}
-use Rattle.tree.specs.Inner.Staying.{stays, goes-none, stays-one}
+use Rattle.tree.specs.Inner.Staying.{stays}
+use Rattle.tree.specs.Laws.Staying.{goes-none, stays-one}
 use Rattle.tree.specs.Inner.StayingCells.{manyStay}
 use Rattle.tree.specs.Steps.{inners, SameBelow, Stays, Step}
 use Rattle.table.specs.SoundTree.{InnerEntry}
@@ -52,11 +52,6 @@ sound-holding {w} s is later = record {
   whole = whole-later (sound-whole s) later;
   root-filled = s .root-filled;
 }
-
--- the same words behind a place
-same-behind : (w v : List ℤ) (n : ℕ) → length v ≡ length w → ((at : ℕ) → n ≤ at → wordAt v at ≡ wordAt w at) → drop n v ≡ drop n w
-same-behind w v n long same =
-    ext-getD (pos 0) (drop n v) (drop n w) (simp length-drop (omega arith)) (λ i low. simp getD-drop (same (n + i) (omega arith)))
 
 -- the table that is left where the clock has been set: it is sound, and stands
 module _ {w v u : List ℤ} {minute : ℤ} (s : Sound w) (h : Holding v minute) (stood : Stands (capacity w) w v) (set-clock : Clocked v minute u)

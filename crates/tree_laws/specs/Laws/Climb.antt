@@ -1,4 +1,4 @@
--- Laws of `Climb`.
+-- From a change below a child to one below the node: its entry worked out afresh, the child joined with another, or sharing with it.
 use mathlib.Core.Path.{_≡_, refl, sym, ap, _∙_}
 use mathlib.Core.Logic.{⊎-elim}
 use mathlib.Core.List.{List, [], _∷_, _++_, List·Memᴰ·head, List·Memᴰ·tail, List·Memᴰ·cases-cons, Memᴰ·append-left, Memᴰ·append-right}
@@ -9,7 +9,8 @@ use Rattle.whole.specs.Lists.{_∈_, _⊆_}
 use Rattle.node.specs.Entry.{Entry, childOf, stampOf}
 use Rattle.table.specs.SoundTree.{Nodes, TreeSound}
 use Rattle.table.specs.Laws.Reach.{flat-in}
-use Rattle.table.specs.Inner.Scan.{SoundIn, sound-in}
+use Rattle.table.specs.Inner.Scan.{SoundIn}
+use Rattle.table.specs.Laws.Scan.{sound-in}
 use Rattle.tree_laws.specs.Inner.Weights.{SameWeights, visits, Once}
 use Rattle.tree_laws.specs.Laws.Weights.{same-refl, same-sym, same-trans, same-append, same-swap, same-entries, isNode, under, sound-in-frame, sound-has, sound-head, sound-tail}
 use Rattle.tree_laws.specs.Inner.InnerEntries.{CallStart, AllInner}

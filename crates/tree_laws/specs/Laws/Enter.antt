@@ -1,4 +1,4 @@
--- Laws of `Enter`.
+-- Going down to put a cell in: what holds of the root, of each child, and after a full child was split.
 use mathlib.Core.Path.{_≡_, refl}
 use mathlib.Core.List.{List, _∷_, _++_, List·Memᴰ·head}
 use Prim.Native.Nat.{ℕ, suc, _≤_, _<_}

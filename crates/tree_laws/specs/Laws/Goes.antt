@@ -1,25 +1,18 @@
--- How the test whether a cell goes is told from words.
-use mathlib.Core.Path.{_≡_, sym, ap, _∙_, subst}
-use mathlib.Core.Logic.{inr, ⊎-elim}
-use mathlib.Core.Bool.{Bool}
-use mir.Syntax.{w32}
-use mir.Val.{toZ, ofZ}
-use lib.Dec.{T, eqb, eqb→eq}
-use lib.IntN.{ℤ}
-use lib.Signed.{clashℤ}
-use borrow.Author.Tests.{eq-eqb}
-use Rattle.whole.specs.Tells.{Tells}
-use Rattle.track.specs.Life.{LivesAt}
+-- Whether a cell goes is decided.
+use mathlib.Core.Path.{_≡_}
+use mathlib.Core.Logic.{inl, inr, ⊎-elim}
+use lib.IntN.{ℤ, ℤ-discrete}
+use lib.Signed.{_≤ℤ_, clashℤ}
+use Rattle.whole.specs.Laws.Order.{≤ℤ-or-<ℤ}
 use Rattle.track.specs.declared.cell.Cell.{Cell}
 use Rattle.tree_laws.specs.Inner.Goes.{Goes}
 
--- two words are equal where their bits are
-pub bits-tell : {a b : ℤ} → toZ w32 (ofZ w32 a) ≡ a → toZ w32 (ofZ w32 b) ≡ b → Tells (eqb (ofZ w32 a) (ofZ w32 b)) (a ≡ b)
-bits-tell {a} {b} p q = record {
-  sure = λ t. sym p ∙ ap (toZ w32) (eqb→eq (ofZ w32 a) (ofZ w32 b) t) ∙ q;
-  seen = λ (e : a ≡ b). subst T (sym (eq-eqb (ofZ w32 a) (ofZ w32 b) (ap (ofZ w32) e))) tt;
-}
+pub decGoes : (minute id : ℤ) (c : Cell) → Dec (Goes minute id c)
+decGoes minute id c = ⊎-elim by-id (λ over. yes (inl over)) (≤ℤ-or-<ℤ minute (c .expiry .at))
+  where
+    told : minute ≤ℤ c .expiry .at → Dec (c .id ≡ id) → Dec (Goes minute id c)
+    told lives (yes e) = yes (inr e)
+    told lives (no ne) = no (λ g. ⊎-elim (λ over. clashℤ over lives) ne g)
 
--- a cell in its life goes only by its identifier
-pub goes-by-id : {minute id : ℤ} (c : Cell) {r : Bool} → LivesAt minute c → Tells r (c .id ≡ id) → Tells r (Goes minute id c)
-goes-by-id c lives t = record { sure = λ h. inr (t .sure h); seen = λ g. ⊎-elim (λ over. absurd (clashℤ over lives)) (λ e. t .seen e) g }
+    by-id : minute ≤ℤ c .expiry .at → Dec (Goes minute id c)
+    by-id lives = told lives (ℤ-discrete (c .id) id)

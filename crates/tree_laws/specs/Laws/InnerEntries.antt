@@ -1,4 +1,4 @@
--- Laws of `InnerEntries`.
+-- The inner entries beneath a node: which they are, and that a change elsewhere leaves them as they were.
 use mathlib.Core.Path.{sym, _∙_, subst}
 use mathlib.Core.Logic.{inl, inr}
 use mathlib.Core.List.{List}

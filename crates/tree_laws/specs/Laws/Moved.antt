@@ -1,4 +1,4 @@
--- Laws of `Moved`.
+-- Changes of a tree put together, and a change below a child seen from the node.
 use mathlib.Core.Path.{_≡_, ap, _∙_}
 use mathlib.Core.List.{List, _∷_, _++_}
 use Prim.Native.Nat.{ℕ, suc, _+_, _≤_, _<_}

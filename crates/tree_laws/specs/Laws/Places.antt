@@ -1,4 +1,4 @@
--- Laws of `Places`.
+-- What a node's entries weigh where one is put in the place of another, put behind the others, or taken out.
 use mathlib.Core.Path.{_≡_, ap, subst}
 use mathlib.Core.List.{List, [], _∷_, _++_, Memᴰ·append-left, Memᴰ·append-right}
 use Prim.Native.Nat.{ℕ, suc, _+_, _-_, _<_}
@@ -11,7 +11,7 @@ use Rattle.whole.specs.Lists.{_∈_}
 use Rattle.whole.specs.Laws.Lists.{at-in, cut-at}
 use Rattle.tree_laws.specs.Inner.Weights.{sumOver, SameWeights}
 use Rattle.tree_laws.specs.Laws.Weights.{sum-cons, same-as, same-trans, same-first, same-swap}
-use Rattle.tree_laws.specs.Inner.Places.{without}
+use Rattle.node.specs.Inner.Change.{without}
 
 module _ {A : Type 0} where
   -- x put in the place of another
@@ -25,10 +25,6 @@ module _ {A : Type 0} where
   -- x put behind the others
   pub append-weights : (l : List A) (x : A) → SameWeights (l ++ x ∷ []) (x ∷ l)
   append-weights l x = same-swap l (x ∷ [])
-
-  -- what is put first on both sides may go
-  pub same-tail : {x : A} {l m : List A} → SameWeights (x ∷ l) (x ∷ m) → SameWeights l m
-  same-tail {x} {l} {m} s = record { same = λ φ. omega (arith, s .same φ, sum-cons φ x l, sum-cons φ x m) }
 
 -- what stands at the places k and m, and the others
 pub record TwoPlaces {A : Type 0} (l : List A) (k m : ℕ) (d : A) : Type 0 where

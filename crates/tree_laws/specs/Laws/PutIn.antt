@@ -1,4 +1,4 @@
--- Laws of `PutIn`.
+-- An entry put in: into a leaf, below a child whose entry is then worked out afresh, and after a child was split.
 use mathlib.Core.Path.{_≡_, refl}
 use mathlib.Core.Logic.{⊎-elim}
 use mathlib.Core.List.{List, _∷_, List·Memᴰ·cases-cons}

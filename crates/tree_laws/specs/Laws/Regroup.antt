@@ -16,7 +16,8 @@ use Rattle.node.specs.WorkedOut.{WorkedOut}
 use Rattle.table.specs.Header.{IsNode}
 use Rattle.table.specs.SoundTree.{Nodes, isLeaf, NotBefore, EntrySound, TreeSound}
 use Rattle.table.specs.Laws.Reach.{in-flat}
-use Rattle.table.specs.Inner.Scan.{SoundIn, sound-in, in-sound}
+use Rattle.table.specs.Inner.Scan.{SoundIn}
+use Rattle.table.specs.Laws.Scan.{sound-in, in-sound}
 use Rattle.tree_laws.specs.Inner.Weights.{sumOver, SameWeights, weight, visits, Once}
 use Rattle.tree_laws.specs.Laws.Weights.{sum-none, sum-append, same-refl, same-as, same-sym, same-trans, same-append, same-entries, visitsIn, isNode, is-self, is-other, not-other, times-cons, times-none, under, AgreeIn, weight-has, visits-has, visits-child, visits-self, weight-same, visits-same, weight-append, visits-append, weight-under, visits-under, leaves-in-frame, nodes-in-frame, sound-in-frame, sound-part}
 use Rattle.tree_laws.specs.Inner.InnerEntries.{CallStart, Fine, AllInner, Renews}

@@ -11,7 +11,7 @@ use Rattle.node.specs.Entry.{Entry, childOf, stampOf}
 use Rattle.table.specs.SoundTree.{Nodes, TreeSound}
 use Rattle.table.specs.Inner.Frame.{Agree}
 use Rattle.table.specs.Laws.Frame.{leaves-frame, nodes-frame, tree-frame}
-use Rattle.table.specs.Inner.Scan.{sound-in}
+use Rattle.table.specs.Laws.Scan.{sound-in}
 use Rattle.tree_laws.specs.Inner.Weights.{sumOver, weight, visits, Once}
 use Rattle.tree_laws.specs.Laws.Weights.{isNode, is-self, is-other, same-as, weight-has, visits-has, weight-child, visits-child, weight-none, visits-none}
 use Rattle.tree_laws.specs.Inner.InnerEntries.{AllInner, Renews}

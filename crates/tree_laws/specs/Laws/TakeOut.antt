@@ -1,4 +1,4 @@
--- Laws of `TakeOut`.
+-- An entry taken out: from a leaf, and below a child that is then mended.
 use mathlib.Core.Path.{_≡_}
 use mathlib.Core.List.{List, [], _∷_, _++_, List·Memᴰ·tail}
 use Prim.Native.Nat.{ℕ, zero, suc, _+_, _≤_}

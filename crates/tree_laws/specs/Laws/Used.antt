@@ -1,4 +1,4 @@
--- Laws of `Used`.
+-- How many nodes are in use and free, how a change moves that, and that a free one is left while a cell is put in.
 use mathlib.Core.Path.{_≡_, refl, sym, ap, _∙_}
 use mathlib.Core.Logic.{⊎-elim}
 use mathlib.Core.List.{List, [], _∷_, _++_, List·Memᴰ·head, List·Memᴰ·tail, List·Memᴰ·cases-cons, List·Memᴰ·eq-of-singleton}
@@ -17,8 +17,9 @@ use Rattle.table.specs.Header.{nodesFor}
 use Rattle.table.specs.SoundTree.{Nodes, leavesOf, nodesOf, TreeSound}
 use Rattle.table.specs.Laws.Reach.{node-down}
 use Rattle.table.specs.Laws.Counts.{few-nodes, few-below, flat-counts}
-use Rattle.table.specs.Inner.Scan.{leavesIn, nodesIn, nodes-in, sound-in}
-use Rattle.table.specs.Inner.SoundBy.{nodes-below}
+use Rattle.table.specs.Inner.Scan.{leavesIn, nodesIn}
+use Rattle.table.specs.Laws.Scan.{nodes-in, sound-in}
+use Rattle.table.specs.Laws.SoundBy.{nodes-below}
 use Rattle.tree_laws.specs.Inner.Weights.{SameWeights, visits, Once}
 use Rattle.tree_laws.specs.Laws.Weights.{sum-length, same-as, same-sym, same-length, same-entries, same-trans, same-first, isNode, is-self, not-other, times-cons, times-none, visits-has, visits-child, weight-has, weight-child}
 use Rattle.tree_laws.specs.Inner.Moved.{MovedTo, Moved, noWeight, noNode}

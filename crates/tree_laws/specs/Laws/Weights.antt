@@ -1,8 +1,7 @@
--- Laws of `Weights`.
+-- Laws of weights: of sums over a list, of lists with the same members, and of what is reached in a tree, by node, by entry and by child.
 use mathlib.Core.Path.{_≡_, refl, sym, ap, _∙_}
 use mathlib.Core.HLevel.{Discrete}
-use mathlib.Core.Logic.{⊎-elim}
-use mathlib.Core.List.{List, [], _∷_, _++_, map, flatMap, List-discrete, List·Memᴰ·head, List·Memᴰ·tail, List·Memᴰ·append-cases}
+use mathlib.Core.List.{List, [], _∷_, _++_, map, flatMap, List-discrete, List·Memᴰ·head, List·Memᴰ·tail}
 use Prim.Native.Nat.{ℕ, zero, suc, _+_, _≤_, _<_}
 use native.Mathlib.Nat.{not-suc-le-zero}
 use native.Mathlib.Decide.{ℕ-discrete, decLt}
@@ -19,7 +18,8 @@ use Rattle.table.specs.SoundTree.{Nodes, leavesOf, nodesOf, EntrySound, TreeSou
 use Rattle.table.specs.Laws.Reach.{node-self}
 use Rattle.table.specs.Inner.Frame.{Agree}
 use Rattle.table.specs.Laws.Frame.{flat-same, leaves-frame, nodes-frame, entry-frame, tree-frame}
-use Rattle.table.specs.Inner.Scan.{leavesIn, nodesIn, SoundIn, leaves-in, nodes-in, sound-in}
+use Rattle.table.specs.Inner.Scan.{leavesIn, nodesIn, SoundIn}
+use Rattle.table.specs.Laws.Scan.{leaves-in, nodes-in, sound-in}
 use Rattle.tree_laws.specs.Inner.Weights.{sumOver, SameWeights, weight, visits, weightIn, Once}
 
 module _ {A : Type 0} (φ : A → ℕ) where
@@ -381,11 +381,6 @@ pub sound-part : (N : Nodes) (cells : ℕ) (clock : ℤ) (h : ℕ) {es fs : List
 unfolding SoundIn
 sound-part N cells clock zero part sound = λ e m. sound e (part e m)
 sound-part N cells clock (suc h) part sound = λ e m. sound e (part e m)
-
-pub sound-append : (N : Nodes) (cells : ℕ) (clock : ℤ) (h : ℕ) (es fs : List Entry) → SoundIn N cells clock h es → SoundIn N cells clock h fs → SoundIn N cells clock h (es ++ fs)
-unfolding SoundIn
-sound-append N cells clock zero es fs s t = λ e m. ⊎-elim (s e) (t e) (List·Memᴰ·append-cases es m)
-sound-append N cells clock (suc h) es fs s t = λ e m. ⊎-elim (s e) (t e) (List·Memᴰ·append-cases es m)
 
 -- a sound node that has the entries es, in any order
 pub sound-has : (N : Nodes) (cells : ℕ) (clock : ℤ) (h i : ℕ) {es : List Entry} → SameWeights (N i) es → TreeSound N cells clock h i → SoundIn N cells clock h es

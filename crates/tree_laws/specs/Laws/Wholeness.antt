@@ -1,4 +1,4 @@
--- Laws of `Wholeness`.
+-- A whole tree stays whole: as the clock goes on, through a change below the root, and where the root grows or gives way.
 use mathlib.Core.Path.{_≡_, ap}
 use mathlib.Core.List.{[], _∷_}
 use Prim.Native.Nat.{ℕ, suc, _+_, _≤_, _<_}
@@ -11,7 +11,7 @@ use Rattle.node.specs.Entry.{Entry, childOf}
 use Rattle.table.specs.Header.{nodesFor}
 use Rattle.table.specs.SoundTree.{Nodes, leavesOf, nodesOf}
 use Rattle.table.specs.Laws.Frame.{tree-later}
-use Rattle.table.specs.Laws.ScanParts.{node-below}
+use Rattle.table.specs.Laws.Header.{node-below}
 use Rattle.tree_laws.specs.Inner.Weights.{visits}
 use Rattle.tree_laws.specs.Laws.Weights.{is-most, times-cons, times-none, same-as, sound-has, sound-head}
 use Rattle.tree_laws.specs.Laws.Moved.{moved-once, moved-nodes}

@@ -1,4 +1,4 @@
--- Laws of `EntryAfresh`.
+-- The entry above a node, worked out afresh: its child, its range, and that it is sound.
 use mathlib.Core.Path.{_≡_, ap}
 use mathlib.Core.Bool.{Bool}
 use mathlib.Core.List.{List}
@@ -6,14 +6,12 @@ use Prim.Native.Nat.{ℕ, zero, suc, _≤_, _<_}
 use native.Mathlib.Omega.{arith}
 use lib.Dec.{lt→ltb, le→leb}
 use lib.IntN.{ℤ, pos}
-use lib.ListN.{length, set}
-use Rattle.words.specs.Layout.{entryWords, nodeAt, setNode, setEntry}
+use lib.ListN.{length}
+use Rattle.words.specs.Layout.{nodeAt}
 use Rattle.words.specs.Words.{natOf}
 use Rattle.track.specs.Numbers.{IsMinute}
-use Rattle.node.specs.Entry.{Entry, childOf, entryCount}
+use Rattle.node.specs.Entry.{childOf, entryCount}
 use Rattle.node.specs.Laws.Entry.{length-entriesOf}
-use Rattle.node.specs.Inner.ChangeAt.{Changed}
-use Rattle.node.specs.Laws.ChangeAt.{put-changes}
 use Rattle.node.specs.Inner.Made.{InRangeAt}
 use Rattle.node.specs.Laws.Made.{cells-in-range, stamped-in-range, child-inner, stamp-inner, inner-worked-out}
 use Rattle.table.specs.Header.{nodesFor, IsNode, entriesAt}
@@ -26,12 +24,6 @@ use Rattle.tree_nodes.specs.Inner.EntryAfresh.{entryAbove, CanRefresh}
 pub refresh-low : {w : List ℤ} {i k child : ℕ} → CanRefresh w i k child → k < entryCount (nodeAt w i)
 unfolding entriesAt
 refresh-low {w} {i} c = rw (← length-entriesOf (nodeAt w i)) (c .low)
-
--- what is put in the place of the entry
-pub refresh-changes : {w : List ℤ} {i k child : ℕ} → CanRefresh w i k child → (e : Entry) → length e ≡ entryWords
-    → Changed w i (set (entriesAt w i) k e) (setNode w i (setEntry (nodeAt w i) k e))
-unfolding entriesAt
-refresh-changes {w} {i} {k} c e whole = put-changes w i (c .in-table) k e (refresh-low c) whole
 
 module _ (N : Nodes) (leaf : Bool) (minute : ℤ) (child : ℕ) where
   pub child-above : childOf (entryAbove N leaf minute child) ≡ child

@@ -1,4 +1,4 @@
--- Laws of `FirstFree`.
+-- The search for the first free node, step by step; a node that is counted is free where it has no entries.
 use mathlib.Core.Path.{_≡_, subst, ap, _∙_, sym}
 use mathlib.Core.List.{List, []}
 use Prim.Native.Nat.{ℕ, _+_, _<_}

@@ -1,4 +1,4 @@
--- Laws of `Kept`.
+-- What a change keeps, over several changes and for a change at one node; and that a table stays long enough.
 use mathlib.Core.Path.{_≡_, refl, ap, _∙_}
 use mathlib.Core.List.{List}
 use Prim.Native.Nat.{ℕ, _^_, _<_}

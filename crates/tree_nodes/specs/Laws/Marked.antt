@@ -1,4 +1,4 @@
--- Laws of `Marked`.
+-- The marked entries of a full node moved to a free one, one after the other.
 use mathlib.Core.Path.{_≡_, refl, ap, subst}
 use mathlib.Core.Bool.{Bool, true, false}
 use mathlib.Core.List.{List, [], _∷_}

@@ -1,4 +1,4 @@
--- Laws of `PartChild`.
+-- What holds of the full child of a node before it is parted, and after each step of the parting.
 use mathlib.Core.Path.{_≡_, sym, ap, _∙_, subst}
 use mathlib.Core.Bool.{Bool}
 use mathlib.Core.List.{List, [], _∷_, _++_, append-nil, Memᴰ·append-left, Memᴰ·append-right}
@@ -13,10 +13,10 @@ use Rattle.node.specs.Inner.Made.{InRangeAt}
 use Rattle.tree_choice.specs.Parting.{marked, Parts}
 use Rattle.table.specs.Header.{capacity, nodesFor, entriesAt}
 use Rattle.table.specs.SoundTree.{Nodes, isLeaf, TreeSound}
-use Rattle.table.specs.Laws.ScanParts.{node-below}
+use Rattle.table.specs.Laws.Header.{node-below}
 use Rattle.tree_laws.specs.Inner.Weights.{SameWeights, Once}
 use Rattle.tree_laws.specs.Laws.Weights.{same-sym, same-trans, same-as, same-entries, sound-has, sound-head}
-use Rattle.tree_laws.specs.Inner.Places.{without}
+use Rattle.node.specs.Inner.Change.{without}
 use Rattle.tree_laws.specs.Laws.Places.{at-weights}
 use Rattle.tree_laws.specs.Laws.Regroup.{child-other}
 use Rattle.tree_laws.specs.Inner.Used.{Free}

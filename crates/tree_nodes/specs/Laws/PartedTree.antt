@@ -12,7 +12,7 @@ use Rattle.table.specs.Header.{capacity, entriesAt}
 use Rattle.table.specs.SoundTree.{Nodes, isLeaf, TreeSound}
 use Rattle.tree_laws.specs.Inner.Weights.{SameWeights, visits, Once}
 use Rattle.tree_laws.specs.Laws.Weights.{sum-append, sum-cons, sum-one, isNode}
-use Rattle.tree_laws.specs.Inner.Places.{without}
+use Rattle.node.specs.Inner.Change.{without}
 use Rattle.tree_laws.specs.Laws.Places.{at-weights, set-weights}
 use Rattle.tree_laws.specs.Inner.Moved.{noWeight, noNode}
 use Rattle.tree_laws.specs.Laws.Regroup.{Afresh}

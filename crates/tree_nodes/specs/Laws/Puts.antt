@@ -1,4 +1,4 @@
--- Laws of `Puts`.
+-- How an entry is put in below a node: into a leaf, and below a child, whose entry is worked out afresh.
 use mathlib.Core.Path.{_≡_, sym, _∙_}
 use mathlib.Core.List.{List, [], _∷_, _++_}
 use Prim.Native.Nat.{ℕ, zero, suc, _≤_, _<_}
@@ -13,7 +13,7 @@ use Rattle.table.specs.Header.{capacity, nodesFor, entriesAt}
 use Rattle.table.specs.SoundTree.{isLeaf}
 use Rattle.tree_laws.specs.Inner.Weights.{SameWeights}
 use Rattle.tree_laws.specs.Laws.Weights.{same-as, same-trans, same-length, sound-has, sound-head}
-use Rattle.tree_laws.specs.Inner.Places.{without}
+use Rattle.node.specs.Inner.Change.{without}
 use Rattle.tree_laws.specs.Laws.Places.{at-weights, set-weights, append-weights}
 use Rattle.tree_laws.specs.Laws.Moved.{down-node}
 use Rattle.tree_laws.specs.Laws.Used.{free-unmet, sound-used}

@@ -1,4 +1,4 @@
--- Laws of `Shift`.
+-- Entries moved from one node to another, one by one, and the entries of two nodes dealt out anew.
 use mathlib.Core.Path.{_≡_, refl, sym, ap, _∙_}
 use mathlib.Core.List.{List, [], _∷_, _++_}
 use Prim.Native.Nat.{ℕ, _+_}
@@ -10,7 +10,7 @@ use Rattle.node.specs.Inner.ChangeAt.{Changed}
 use Rattle.table.specs.Header.{capacity, entriesAt}
 use Rattle.tree_laws.specs.Inner.Weights.{SameWeights}
 use Rattle.tree_laws.specs.Laws.Weights.{sum-append, sum-cons, sum-one, same-refl, same-trans, same-swap, same-length}
-use Rattle.tree_laws.specs.Inner.Places.{without}
+use Rattle.node.specs.Inner.Change.{without}
 use Rattle.tree_laws.specs.Laws.Places.{at-weights}
 use Rattle.tree_nodes.specs.Inner.Kept.{Kept}
 use Rattle.tree_nodes.specs.Laws.Kept.{kept-all, kept-then, kept-capacity, changed-kept, changed-here, changed-others}

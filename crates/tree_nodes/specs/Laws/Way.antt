@@ -1,4 +1,4 @@
--- Laws of `Way`.
+-- The way down: a child that is not full is taken as it is, a full one is parted first.
 use mathlib.Core.Path.{_≡_}
 use mathlib.Core.Logic.{_⊎_, ⊎-elim}
 use mathlib.Core.List.{List, []}

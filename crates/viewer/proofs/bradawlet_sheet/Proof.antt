@@ -5,18 +5,6 @@ use borrow.Author.Needs.{needs}
 use Rattle.viewer.proofs.bradawlet_sheet.Statement.{statement}
 use Rattle.viewer.proofs.bradawlet_sheet.Tie as tie
 
-judge-requires : tie.Need-judge-requires
-judge-requires c κs = search needs
-
-enum-told : tie.Need-enum-told
-enum-told c = search needs
-
-enum-known-judged : tie.Need-enum-known-judged
-enum-known-judged c = search needs
-
-number-requires : tie.Need-number-requires
-number-requires c κs = search needs
-
 returns : tie.Need-returns
 returns c = tells-well-formed (c .before .before .judge .ensures) (c .enum-told .given .1)
 
@@ -28,4 +16,4 @@ returns-2 c =
 pub bradawlet-sheet-spec : {M : Type 1} → statement M
 bradawlet-sheet-spec =
     tie.close
-    (tie.spec judge-requires enum-told enum-known-judged number-requires returns returns-2)
+    (tie.spec (λ c κs. search needs) (λ c. search needs) (λ c. search needs) (λ c κs. search needs) returns returns-2)

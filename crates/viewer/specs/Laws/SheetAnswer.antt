@@ -4,10 +4,10 @@ use mathlib.Core.Logic.{inl, inr}
 use mathlib.Core.List.{List, [], _∷_}
 use Prim.Native.Nat.{ℕ}
 use lib.IntN.{ℤ, pos, natAbs}
+use Rattle.track.specs.Numbers.{mostCells}
 use Rattle.track.specs.Refusals.{number, _when_, First, Gives}
 use Rattle.track.specs.Laws.Refusals.{first-then, not-zero, refused-not-zero}
 use Rattle.track.specs.declared.refusal.Refusal.{Refusal}
-use Rattle.sheet.specs.Sheet.{mostCells}
 use Rattle.sheet.specs.WellFormed.{SheetSound, sheetReasons, judgedNumber, Judges}
 use Rattle.sheet.specs.declared.judge.Judged.{Judged}
 use Rattle.sheet.specs.declared.judge.Judged.the-variants.{WellFormed, Refused}
@@ -22,7 +22,7 @@ module _ {bytes : List ℕ} {r : Judged} (judges : Judges mostCells bytes r) whe
       let same = ap judgedNumber e in
       record { number = number why; is = is; first = told (number why) (inl (λ f. refused-not-zero why (sym same ∙ f), sym same)) }
 
-  pub tells-well-formed : {n : ℕ} {clock : ℤ} → r ≡ WellFormed n clock → Gives (sheetAnswers bytes) (pos 1)
+  pub tells-well-formed : r ≡ WellFormed → Gives (sheetAnswers bytes) (pos 1)
   tells-well-formed e =
       let none = ap judgedNumber e in
       record { number = 1; is = refl; first = told 1 (inr (λ f. f none, inl (judges .sound none, refl))) }

@@ -6,7 +6,7 @@ use mathlib.Core.Bool.{Bool, true, false, not, cond}
 use Prim.Native.Nat.{ℕ, zero, suc, _+_, _*_, _-_, _≤_, _<_}
 use native.Mathlib.Nat.{le-dest, mul-zero, zero-mul, add-zero, zero-add}
 use native.Mathlib.Omega.{arith}
-use lib.Dec.{T, ltb, leb, ltb→lt, nltb→le, lt→ltb, le→leb, leb→le}
+use lib.Dec.{T, ltb, ltb→lt, nltb→le, lt→ltb, le→leb, leb→le}
 use lib.IntN.{ℤ, pos, negsuc, negℤ, natAbs, subℕ, _+ℤ_, _*ℤ_}
 use lib.Signed.{_≤ℤ_, _<ℤ_, leZ, ltZ}
 
@@ -214,6 +214,3 @@ all4 Q f u v w x = each (λ z. Q z v w x) (λ a a'. all3 (Q (dif a a')) (f a a')
 
 pub all5 : (Q : ℤ → ℤ → ℤ → ℤ → ℤ → Type 0) → ((a a' b b' c c' d d' e e' : ℕ) → Q (dif a a') (dif b b') (dif c c') (dif d d') (dif e e')) → (u v w x y : ℤ) → Q u v w x y
 all5 Q f u v w x y = each (λ z. Q z v w x y) (λ a a'. all4 (Q (dif a a')) (f a a') v w x y) u
-
-pub all6 : (Q : ℤ → ℤ → ℤ → ℤ → ℤ → ℤ → Type 0) → ((a a' b b' c c' d d' e e' g g' : ℕ) → Q (dif a a') (dif b b') (dif c c') (dif d d') (dif e e') (dif g g')) → (u v w x y z : ℤ) → Q u v w x y z
-all6 Q f u v w x y z = each (λ t. Q t v w x y z) (λ a a'. all5 (Q (dif a a')) (f a a') v w x y z) u

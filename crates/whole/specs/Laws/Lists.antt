@@ -1,4 +1,4 @@
--- Laws of `Lists`.
+-- Laws of membership: in a list by place, in what a test keeps and in lists gathered one after the other; and how long a list without repeats is.
 use mathlib.Core.Path.{_≡_, refl, sym, ap, _∙_}
 use mathlib.Core.Logic.{_⊎_, inl, inr, ⊎-elim}
 use mathlib.Core.Bool.{Bool, true, false}
@@ -23,9 +23,6 @@ in-at d (List·Memᴰ·tail m) = let r = in-at d m in (suc (r .0), omega arith, 
 
 pub take-in : {A : Type 0} (n : ℕ) (l : List A) → take n l ⊆ l
 take-in n l x m = rw take-append-drop at (Memᴰ·append-left (drop n l) m)
-
-pub drop-in : {A : Type 0} (n : ℕ) (l : List A) → drop n l ⊆ l
-drop-in n l x m = rw take-append-drop at (Memᴰ·append-right (take n l) m)
 
 -- a member cuts its list in two
 pub cut-at : {A : Type 0} {x : A} {l : List A} → x ∈ l → (before : List A) × (after : List A) × (l ≡ before ++ x ∷ after)
@@ -128,7 +125,3 @@ module _ {A : Type 0} where
           let after = c .1 in
           let room = fits (before ++ after) (λ y h. beside before after (λ e. new (Memᴰ·cast e h)) (rw (c .2) at (has y (List·Memᴰ·tail h)))) in
           omega (arith, ap length (c .2), length-append before (x ∷ after), length-append before after)
-
-  -- two such lists with the same elements are equally long
-  pub no-repeat-same-length : {l m : List A} → NoRepeat l → NoRepeat m → l ⊆ m → m ⊆ l → length l ≡ length m
-  no-repeat-same-length once-l once-m to from = omega (arith, no-repeat-fits once-l to, no-repeat-fits once-m from)

@@ -7,6 +7,7 @@ use lib.Dec.{T, lt→ltb, nleb→lt}
 use lib.IntN.{ℤ, pos, negsuc, negℤ, _+ℤ_, _-ℤ_, _*ℤ_, *ℤ-comm, +ℤ-assoc, +ℤ-comm, negℤ-+ℤ, negℤ-negℤ, ℤ-discrete}
 use lib.Signed.{_≤ℤ_, _<ℤ_, leZ, ltZ, leZ-yes, ltZ-yes, ltZ-no}
 use Rattle.whole.specs.Laws.Difference.{each, all2, all3, all4, difs, cross}
+use Rattle.whole.specs.Tells.{Tells}
 use Rattle.whole.specs.Laws.Tells.{dec-stable, stable}
 
 -- ---- the ring
@@ -79,12 +80,19 @@ ltZ-true e = ltZ-yes (subst T (sym e) tt)
 pub ltZ-false : {a b : ℤ} → ltZ a b ≡ false → b ≤ℤ a
 ltZ-false e = ltZ-no (subst (λ (t : Bool). T (not t)) (sym e) tt)
 
+-- a test tells its order
+pub leZ-tells : {a b : ℤ} → Tells (leZ a b) (a ≤ℤ b)
+leZ-tells = record { sure = λ t. leZ-yes t; seen = λ h. h .le }
+
+pub ltZ-tells : {a b : ℤ} → Tells (ltZ a b) (a <ℤ b)
+ltZ-tells = record { sure = λ t. ltZ-yes t; seen = λ h. h .lt }
+
 -- an order or an equation that cannot be denied holds
 pub ≤ℤ-stable : {a b : ℤ} → ((a ≤ℤ b → ⊥) → ⊥) → a ≤ℤ b
-≤ℤ-stable {a} {b} = stable {b = leZ a b} (record { sure = λ t. leZ-yes t; seen = λ h. h .le })
+≤ℤ-stable {a} {b} = stable {b = leZ a b} leZ-tells
 
 pub <ℤ-stable : {a b : ℤ} → ((a <ℤ b → ⊥) → ⊥) → a <ℤ b
-<ℤ-stable {a} {b} = stable {b = ltZ a b} (record { sure = λ t. ltZ-yes t; seen = λ h. h .lt })
+<ℤ-stable {a} {b} = stable {b = ltZ a b} ltZ-tells
 
 pub ≡ℤ-stable : {a b : ℤ} → ((a ≡ b → ⊥) → ⊥) → a ≡ b
 ≡ℤ-stable {a} {b} = dec-stable (ℤ-discrete a b)

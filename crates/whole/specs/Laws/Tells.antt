@@ -1,8 +1,10 @@
--- Laws of `Tells`.
+-- What follows from a test's answer, and how the answers of several tests go together.
 use mathlib.Core.Path.{_≡_, refl, sym, subst}
 use mathlib.Core.Logic.{_↔_, _⊎_, inl, inr}
 use mathlib.Core.Bool.{Bool, true, false, not, _&&_, _||_}
-use lib.Dec.{T}
+use Prim.Native.Nat.{ℕ, _≤_}
+use borrow.Author.Tests.{eq-eqb}
+use lib.Dec.{T, leb, eqb, leb→le, le→leb, eqb→eq}
 use Rattle.whole.specs.Tells.{Tells}
 
 -- a test that passed, and one that failed; a condition `!test(..)` gives the `not` forms
@@ -39,6 +41,13 @@ tells-false n = record { sure = λ t. absurd t; seen = n }
 
 pub tells-as : {b : Bool} {P Q : Type 0} → Tells b P → (P → Q) → (Q → P) → Tells b Q
 tells-as t f g = record { sure = λ h. f (t .sure h); seen = λ q. t .seen (g q) }
+
+-- a test of counts tells its order, and its equation
+pub leb-tells : {m n : ℕ} → Tells (leb m n) (m ≤ n)
+leb-tells {m} {n} = record { sure = leb→le m n; seen = le→leb m n }
+
+pub eqb-tells : {m n : ℕ} → Tells (eqb m n) (m ≡ n)
+eqb-tells {m} {n} = record { sure = eqb→eq m n; seen = λ e. subst T (sym (eq-eqb m n e)) tt }
 
 -- `a & b` tells both facts, `a | b` one of them
 pub tells-both : {a b : Bool} {P Q : Type 0} → Tells a P → Tells b Q → Tells (a && b) (P × Q)

@@ -1,21 +1,20 @@
--- Laws of `Within`.
+-- Laws of ranges: those of sums and products, what fits a machine's number, and how a signed need of the code is answered.
 use mathlib.Core.Path.{_≡_, refl, sym, ap, _∙_, subst}
-use Prim.Native.Nat.{ℕ, suc, _+_, _*_, _/_, _^_, _≤_, _<_}
-use native.Mathlib.Nat.{div-le-self, mul-le-mul, lt-of-le-of-lt, le-trans}
+use Prim.Native.Nat.{ℕ, suc, _+_, _*_, _^_, _≤_, _<_}
+use native.Mathlib.Nat.{mul-le-mul, lt-of-le-of-lt, le-trans}
 use native.Mathlib.Omega.{arith}
 use mathlib.Core.List.{List}
 use lib.ListN.{getD}
-use lib.Dec.{T, ltb, leb, eqb, ltb→lt, leb→le, lt→ltb, le→leb, eqb→eq}
+use lib.Dec.{T, ltb, leb, eqb, ltb→lt, leb→le, lt→ltb}
 use lib.IntN.{ℤ, pos, negsuc, negℤ, natAbs, _+ℤ_, _-ℤ_, _*ℤ_, +ℤ-idl}
-use lib.Signed.{_≤ℤ_, _<ℤ_, mag, natAbs-le, quotZ}
-use borrow.Author.Tests.{eq-eqb}
+use lib.Signed.{_≤ℤ_, _<ℤ_, mag, natAbs-le}
 use mir.Syntax.{Width, w32, w64}
 use mir.Val.{SFits, hbits, toZ, ofZ}
 use mir.ValLaws as ValLaws
 use Rattle.whole.specs.Laws.Difference.{each, all2, difs}
 use Rattle.whole.specs.Laws.Order.{≤ℤ-trans}
 use Rattle.whole.specs.Tells.{Tells}
-use Rattle.whole.specs.Laws.Tells.{stable}
+use Rattle.whole.specs.Laws.Tells.{stable, tells-as, leb-tells, eqb-tells}
 use Rattle.whole.specs.Within.{Within}
 
 -- ---- the absolute value
@@ -46,16 +45,6 @@ sub-in h k = add-in h (neg-in k)
 
 pub mul-in : {a b : ℤ} {m n : ℕ} → Within m a → Within n b → Within (m * n) (a *ℤ b)
 mul-in {a} {b} {m} {n} h k = record { abs = subst (λ (x : ℕ). x ≤ m * n) (sym (abs-*ℤ a b)) (mul-le-mul (h .abs) (k .abs)) }
-
--- a quotient toward 0 is no larger
-pub quot-in : {a : ℤ} (b : ℤ) {m : ℕ} → Within m a → Within m (quotZ a b)
-quot-in {a} b {m} h = record { abs = le-trans (quot-abs a b) (h .abs) }
-  where
-    quot-abs : (a b : ℤ) → natAbs (quotZ a b) ≤ natAbs a
-    quot-abs (pos a) (pos b) = div-le-self a b
-    quot-abs (pos a) (negsuc b) = subst (λ (x : ℕ). x ≤ a) (sym (abs-neg (pos (a / suc b)))) (div-le-self a (suc b))
-    quot-abs (negsuc a) (pos b) = subst (λ (x : ℕ). x ≤ suc a) (sym (abs-neg (pos (suc a / b)))) (div-le-self (suc a) b)
-    quot-abs (negsuc a) (negsuc b) = div-le-self (suc a) (suc b)
 
 pub widen : {z : ℤ} {m n : ℕ} → T (leb m n) → Within m z → Within n z
 widen {m} {n} t h = record { abs = le-trans (h .abs) (leb→le m n t) }
@@ -90,7 +79,7 @@ from-zero {bound} h k = between (≤ℤ-trans (neg-le bound) h) k
 
 -- a range that cannot be denied holds
 pub within-stable : {bound : ℕ} {z : ℤ} → ((Within bound z → ⊥) → ⊥) → Within bound z
-within-stable {bound} {z} = stable {b = leb (natAbs z) bound} (record { sure = λ t. record { abs = leb→le (natAbs z) bound t }; seen = λ h. le→leb (natAbs z) bound (h .abs) })
+within-stable {bound} {z} = stable {b = leb (natAbs z) bound} (tells-as leb-tells (λ h. record { abs = h }) (λ h. h .abs))
 
 -- ---- what fits a width: `fits tt (mul-in h k)`
 mag-abs : (z : ℤ) → mag z ≤ natAbs z
@@ -142,7 +131,7 @@ pub bits-eq : (w : Width) (a b : ℤ) → SFits w a → SFits w b → ofZ w a �
 bits-eq w a b f g e = sym (ValLaws.toZ-ofZ w a f) ∙ ap (toZ w) e ∙ ValLaws.toZ-ofZ w b g
 
 pub equal-tells : (w : Width) (a b : ℤ) → SFits w a → SFits w b → Tells (eqb (ofZ w a) (ofZ w b)) (a ≡ b)
-equal-tells w a b f g = record { sure = λ t. bits-eq w a b f g (eqb→eq (ofZ w a) (ofZ w b) t); seen = λ e. subst T (sym (eq-eqb (ofZ w a) (ofZ w b) (ap (ofZ w) e))) tt }
+equal-tells w a b f g = tells-as eqb-tells (bits-eq w a b f g) (ap (ofZ w))
 
 -- a count, as a signed number
 pub read-nat : (w : Width) (n : ℕ) → n < 2 ^ hbits w → toZ w n ≡ pos n

@@ -5,16 +5,10 @@ use Rattle.whole.specs.Laws.Within.{word-back}
 use Rattle.words.proofs.place_at.Statement.{statement}
 use Rattle.words.proofs.place_at.Tie as tie
 
-word-requires : tie.Need-word-requires
-word-requires c κs = search needs
-
-place-requires : tie.Need-place-requires
-place-requires c κs = search needs
-
 returns : tie.Need-returns
 returns c =
     let read = c .before .word in
     (c .place .ensures .0 ∙ ap natOf (word-back (read .result) (read .ok) ∙ read .ensures), c .place .ensures .1)
 
 pub place-at-spec : {M : Type 1} → statement M
-place-at-spec = tie.close (tie.spec word-requires place-requires returns)
+place-at-spec = tie.close (tie.spec (λ c κs. search needs) (λ c κs. search needs) returns)

@@ -1,33 +1,18 @@
 -- Laws of nodes in a table and of entries in a node.
-use mathlib.Core.Path.{_≡_, refl, sym, _∙_}
+use mathlib.Core.Path.{_≡_, _∙_}
 use mathlib.Core.List.{List}
 use Prim.Native.Nat.{ℕ, _+_, _-_, _<_, _≤_}
 use native.Mathlib.Omega.{arith}
 use borrow.Rule.Slice.PartMut.{putMid}
 use lib.ListN.{length, getD, take, drop, set}
-use Rattle.words.specs.Parts.{part, put}
-use Rattle.words.specs.Laws.Parts.{length-part, length-put, getD-part, getD-put-below, part-put, put-part, put-put, record-other, part-part, put-in-part, part-set-below, set-in-part, lent-part, lent-back}
-use Rattle.words.specs.Layout.{header, nodeWords, ownWords, entryWords, fullNode, nodeStart, entryOffset, entryStart, InTable, nodeAt, setNode, entryAt, setEntry}
-
--- the entries of a full node are all of its words after its own
-pub full-node-ends : entryOffset fullNode ≡ nodeWords
-full-node-ends = refl
-
-pub entry-ends : (k : ℕ) → k < fullNode → entryOffset k + entryWords ≤ nodeWords
-entry-ends k h = omega arith
+use Rattle.words.specs.Laws.Parts.{length-part, length-put, getD-part, getD-put-below, part-put, record-other, part-set-below, lent-part, lent-back}
+use Rattle.words.specs.Layout.{header, nodeWords, ownWords, entryWords, fullNode, nodeStart, entryOffset, InTable, nodeAt, setNode, entryAt, setEntry}
 
 module _ {A : Type 0} where
   -- ---- a node
-  pub length-nodeAt : (w : List A) (i : ℕ) → InTable w i → length (nodeAt w i) ≡ nodeWords
-  unfolding nodeAt
-  length-nodeAt w i fits = length-part w (nodeStart i) nodeWords fits
-
   pub length-setNode : (w : List A) (i : ℕ) (n : List A) → InTable w i → length n ≡ nodeWords → length (setNode w i n) ≡ length w
   unfolding setNode
   length-setNode w i n = length-put w (nodeStart i) nodeWords n
-
-  pub still-in-table : (w : List A) (i : ℕ) (n : List A) (j : ℕ) → InTable w i → length n ≡ nodeWords → InTable w j → InTable (setNode w i n) j
-  still-in-table w i n j fits long h = omega (arith, length-setNode w i n fits long)
 
   pub node-same : (w : List A) (i : ℕ) (n : List A) → InTable w i → length n ≡ nodeWords → nodeAt (setNode w i n) i ≡ n
   unfolding setNode nodeAt
@@ -41,31 +26,7 @@ module _ {A : Type 0} where
   unfolding setNode
   header-same w i n j d fits h = getD-put-below w (nodeStart i) nodeWords n j d fits (omega arith)
 
-  pub setNode-nodeAt : (w : List A) (i : ℕ) → setNode w i (nodeAt w i) ≡ w
-  unfolding nodeAt setNode
-  setNode-nodeAt w i = put-part w (nodeStart i) nodeWords
-
-  pub setNode-setNode : (w : List A) (i : ℕ) (n m : List A) → InTable w i → length n ≡ nodeWords → setNode (setNode w i n) i m ≡ setNode w i m
-  unfolding setNode
-  setNode-setNode w i n m = put-put w (nodeStart i) nodeWords n m
-
-  -- ---- a node by its words
-  pub word-nodeAt : (w : List A) (i j : ℕ) (d : A) → j < nodeWords → getD (nodeAt w i) j d ≡ getD w (nodeStart i + j) d
-  unfolding nodeAt
-  word-nodeAt w i j d = getD-part w (nodeStart i) nodeWords j d
-
-  pub set-in-node : (w : List A) (i j : ℕ) (v : A) → InTable w i → j < nodeWords → set w (nodeStart i + j) v ≡ setNode w i (set (nodeAt w i) j v)
-  unfolding nodeAt setNode
-  set-in-node w i = set-in-part w (nodeStart i) nodeWords
-
-  pub part-of-node : (w : List A) (i b m : ℕ) → b + m ≤ nodeWords → part (nodeAt w i) b m ≡ part w (nodeStart i + b) m
-  unfolding nodeAt
-  part-of-node w i = part-part w (nodeStart i) nodeWords
-
-  pub put-in-node : (w : List A) (i b m : ℕ) (p : List A) → InTable w i → b + m ≤ nodeWords → put w (nodeStart i + b) m p ≡ setNode w i (put (nodeAt w i) b m p)
-  unfolding nodeAt setNode
-  put-in-node w i b m p fits h = sym (put-in-part w (nodeStart i) nodeWords b m p fits h)
-
+  -- ---- a node past a store in the header
   pub node-past-header : (w : List A) (j : ℕ) (v : A) (i : ℕ) → j < header → nodeAt (set w j v) i ≡ nodeAt w i
   unfolding nodeAt
   node-past-header w j v i h = part-set-below w j v (nodeStart i) nodeWords (omega arith)
@@ -74,10 +35,6 @@ module _ {A : Type 0} where
   module _ (n : List A) (k : ℕ) (long : length n ≡ nodeWords) (low : k < fullNode) where
     fits : entryOffset k + entryWords ≤ length n
     fits = omega arith
-
-    pub length-entryAt : length (entryAt n k) ≡ entryWords
-    unfolding entryAt
-    length-entryAt = length-part n (entryOffset k) entryWords fits
 
     module _ (e : List A) (whole : length e ≡ entryWords) where
       pub length-setEntry : length (setEntry n k e) ≡ nodeWords
@@ -100,15 +57,6 @@ module _ {A : Type 0} where
   unfolding entryAt
   word-entryAt n k j d = getD-part n (entryOffset k) entryWords j d
 
-  -- ---- an entry by its place in the table
-  pub entry-of-node : (w : List A) (i k : ℕ) → k < fullNode → entryAt (nodeAt w i) k ≡ part w (entryStart i k) entryWords
-  unfolding entryAt
-  entry-of-node w i k low = part-of-node w i (entryOffset k) entryWords (omega arith)
-
-  pub put-entry : (w : List A) (i k : ℕ) (e : List A) → InTable w i → k < fullNode → put w (entryStart i k) entryWords e ≡ setNode w i (setEntry (nodeAt w i) k e)
-  unfolding setEntry
-  put-entry w i k e fits low = put-in-node w i (entryOffset k) entryWords e fits (omega arith)
-
   -- ---- node i lent as `&mut w[a..a + NODE_WORDS]`, from its start `a` on
   pub length-lent-node : (w : List A) (i a : ℕ) → a ≡ nodeStart i → InTable w i → length (take (a + nodeWords - a) (drop a w)) ≡ nodeWords
   length-lent-node w i a start fits = rw (lent-part w a nodeWords) (length-part w a nodeWords (omega arith))
@@ -127,8 +75,3 @@ module _ {A : Type 0} where
       → n ≡ change (take (a + nodeWords - a) (drop a w)) → putMid a (a + nodeWords - a) w n ≡ setNode w i (change (nodeAt w i))
   unfolding nodeAt setNode
   lent-node change w i a n start made = lent-back w a nodeWords n ∙ rw (made, lent-part w a nodeWords, start)
-
--- for `simp`; where one node is set after another, `simp (node-rules, still-in-table)`
-pub ruleset node-rules = (length-nodeAt, length-setNode, node-same, node-other, header-same, setNode-nodeAt, setNode-setNode, node-past-header)
-
-pub ruleset entry-rules = (length-entryAt, length-setEntry, entry-same, entry-other, own-same)

@@ -1,16 +1,15 @@
--- Laws of `part` and `put`, for lists of any type. Those that simplify are in the set `part-rules`, for `simp`, which looks for their side
--- conditions among the variables in scope.
+-- Laws of `part` and `put`, for lists of any type: lengths, elements, parts of parts, and parts that are lent.
 use mathlib.Core.Path.{_≡_, ap, sym, _∙_}
 use mathlib.Core.List.{List, [], _∷_, _++_, append-assoc, append-nil}
 use Prim.Native.Nat.{ℕ, zero, suc, _+_, _*_, _-_, _<_, _≤_}
 use native.Mathlib.Decide.{decLt}
 use native.Mathlib.Nat.{add-sub-cancel-left, mul-le-mul-left, mul-suc}
-use native.Mathlib.Numerals.{add-one, unary-clauses}
+use native.Mathlib.Numerals.{add-one, add-two, add-three, unary-clauses}
 use native.Mathlib.Omega.{arith}
-use borrow.Rule.Slice.PartMut.{putMid, set-mid-at}
+use borrow.Rule.Slice.PartMut.{putMid}
 use lib.ListN.{length, getD, take, drop, set, length-take, length-drop, length-append, List·getD-append, take-append-drop, drop-of-length-le}
 use lib.Seq.{getD-take, getD-drop, getD-append-add, take-at, drop-at, take-take, take-add, take-nil, take-all, drop-drop, drop-cons, take-append-le, drop-append-le, drop-append-add}
-use lib.Seq.{take-set-le, take-set-lt, drop-set-lt, drop-set-add, set-split, sets, sets-eq}
+use lib.Seq.{drop-set-lt, set-split, sets, sets-eq}
 use Rattle.words.specs.Parts.{part, put}
 
 module _ {A : Type 0} where
@@ -39,13 +38,6 @@ module _ {A : Type 0} where
   getD-put-below w a k p j d fits h =
       List·getD-append (take a w) (p ++ drop k (drop a w)) d j (omega (arith, length-fore w a (omega arith))) ∙ getD-take a w j d h
 
-  pub getD-put-in : (w : List A) (a k : ℕ) (p : List A) (j : ℕ) (d : A) → a + k ≤ length w → length p ≡ k → j < k → getD (put w a k p) (a + j) d ≡ getD p j d
-  unfolding put
-  getD-put-in w a k p j d fits long h =
-      ap (λ (m : ℕ). getD (take a w ++ (p ++ drop k (drop a w))) (m + j) d) (sym (length-fore w a (omega arith)))
-      ∙ getD-append-add (take a w) (p ++ drop k (drop a w)) j d
-      ∙ List·getD-append p (drop k (drop a w)) d j (omega arith)
-
   pub getD-put-above : (w : List A) (a k : ℕ) (p : List A) (j : ℕ) (d : A) → a + k ≤ length w → length p ≡ k → a + k ≤ j → getD (put w a k p) j d ≡ getD w j d
   unfolding put
   getD-put-above w a k p j d fits long h =
@@ -63,12 +55,6 @@ module _ {A : Type 0} where
   unfolding part put
   part-put w a k p fits long =
       rw (drop-at (take a w) (p ++ drop k (drop a w)) a (length-fore w a (omega arith))) (take-at p (drop k (drop a w)) k long)
-
-  pub put-put : (w : List A) (a k : ℕ) (p q : List A) → a + k ≤ length w → length p ≡ k → put (put w a k p) a k q ≡ put w a k q
-  unfolding put
-  put-put w a k p q fits long =
-      let fore = length-fore w a (omega arith) in
-      rw (take-at (take a w) (p ++ drop k (drop a w)) a fore, drop-at (take a w) (p ++ drop k (drop a w)) a fore, drop-at p (drop k (drop a w)) k long)
 
   -- ---- a part of a list in two halves
   part-front : (f x : List A) (b m : ℕ) → b + m ≤ length f → part (f ++ x) b m ≡ part f b m
@@ -119,7 +105,7 @@ module _ {A : Type 0} where
       by (yes below) = part-put-below w (base + size * i) size p (base + size * j) size fits (ends j i below)
       by (no not-below) = part-put-above w (base + size * i) size p (base + size * j) size fits long (ends i j (omega arith))
 
-  -- ---- a part of a part, and what is put into a part
+  -- ---- a part of a part
   drop-take : (b k : ℕ) (l : List A) → drop b (take k l) ≡ take (k - b) (drop b l)
   drop-take zero k l = simp unary-clauses
   drop-take (suc b) zero l = let none : 0 - suc b ≡ 0 = omega arith in rw none
@@ -135,54 +121,10 @@ module _ {A : Type 0} where
   pub part-of-put : (w : List A) (a k : ℕ) (p : List A) (b m : ℕ) → a + k ≤ length w → length p ≡ k → b + m ≤ k → part (put w a k p) (a + b) m ≡ part p b m
   part-of-put w a k p b m fits long h = sym (part-part (put w a k p) a k b m h) ∙ rw (part-put w a k p fits long)
 
-  pub put-in-part : (w : List A) (a k b m : ℕ) (p : List A) → a + k ≤ length w → b + m ≤ k → put w a k (put (part w a k) b m p) ≡ put w (a + b) m p
-  unfolding put part
-  put-in-part w a k b m p fits h = rw (fore, aft) (simp append-assoc)
-    where
-      run : List A
-      run = take k (drop a w)
-
-      rest : List A
-      rest = drop k (drop a w)
-
-      long : length run ≡ k
-      long = length-part w a k fits
-
-      fore : take (a + b) w ≡ take a w ++ take b run
-      fore = take-add a b w ∙ ap (λ (l : List A). take a w ++ l) (sym (take-take b k (drop a w) (omega arith)))
-
-      aft : drop m (drop (a + b) w) ≡ drop m (drop b run) ++ rest
-      aft =
-          let h₁ : b ≤ length run = omega (arith, long) in
-          let h₂ : m ≤ length (drop b run) = omega (arith, long, length-drop b run) in
-          ap (drop m) (sym (drop-drop b a w) ∙ ap (drop b) (sym (take-append-drop k (drop a w))) ∙ drop-append-le b run rest h₁)
-          ∙ drop-append-le m (drop b run) rest h₂
-
   -- ---- one store
   pub part-set-below : (w : List A) (j : ℕ) (v : A) (a k : ℕ) → j < a → part (set w j v) a k ≡ part w a k
   unfolding part
   part-set-below w j v a k h = rw (drop-set-lt a w j v)
-
-  pub part-set-above : (w : List A) (j : ℕ) (v : A) (a k : ℕ) → a + k ≤ j → part (set w j v) a k ≡ part w a k
-  unfolding part
-  part-set-above w j v a k h =
-      let at : j ≡ a + (j - a) = omega arith in
-      ap (λ (n : ℕ). take k (drop a (set w n v))) at ∙ ap (take k) (drop-set-add a w (j - a) v) ∙ take-set-le k (drop a w) (j - a) v (omega arith)
-
-  pub part-set-in : (w : List A) (a k j : ℕ) (v : A) → j < k → part (set w (a + j) v) a k ≡ set (part w a k) j v
-  unfolding part
-  part-set-in w a k j v h = rw (drop-set-add a w j v) (take-set-lt k (drop a w) j v h)
-
-  pub set-in-part : (w : List A) (a k j : ℕ) (v : A) → a + k ≤ length w → j < k → set w (a + j) v ≡ put w a k (set (part w a k) j v)
-  unfolding put part
-  set-in-part w a k j v fits h =
-      let short : j < length (take k (drop a w)) = omega (arith, length-part w a k fits) in
-      sym (set-mid-at a k j w v short)
-
-  pub set-put : (w : List A) (a k : ℕ) (p : List A) (j : ℕ) (v : A) → a + k ≤ length w → length p ≡ k → j < k → set (put w a k p) (a + j) v ≡ put w a k (set p j v)
-  set-put w a k p j v fits long h =
-      let fits′ : a + k ≤ length (put w a k p) = omega (arith, length-put w a k p fits long) in
-      set-in-part (put w a k p) a k j v fits′ h ∙ simp (part-put, put-put)
 
   -- ---- a put grows by what is put beside it
   pub put-none : (w : List A) (a : ℕ) → put w a 0 [] ≡ w
@@ -235,6 +177,16 @@ module _ {A : Type 0} where
   pub part-next : (w : List A) (a k : ℕ) (d : A) → a + k < length w → part w a (k + 1) ≡ part w a k ++ (getD w (a + k) d ∷ [])
   part-next w a k d h = part-add w a k 1 ∙ ap (λ (l : List A). part w a k ++ l) (part-one w (a + k) d h)
 
+  -- four elements one after the other
+  pub part-four : (w : List A) (a : ℕ) (d : A) → a + 4 ≤ length w → getD w a d ∷ getD w (a + 1) d ∷ getD w (a + 2) d ∷ getD w (a + 3) d ∷ [] ≡ part w a 4
+  unfolding part
+  part-four w a d fits =
+      let h₀ : a < length w = omega arith in
+      let h₁ : suc a < length w = omega arith in
+      let h₂ : suc (suc a) < length w = omega arith in
+      let h₃ : suc (suc (suc a)) < length w = omega arith in
+      rw (add-one, add-two, add-three, drop-cons w a d, drop-cons w (suc a) d, drop-cons w (suc (suc a)) d, drop-cons w (suc (suc (suc a))) d)
+
   -- stores one after the other
   pub sets-put : (w : List A) (a : ℕ) (p : List A) → a + length p ≤ length w → sets w a p ≡ put w a (length p) p
   unfolding put
@@ -248,6 +200,3 @@ module _ {A : Type 0} where
   pub lent-back : (w : List A) (a k : ℕ) (p : List A) → putMid a (a + k - a) w p ≡ put w a k p
   unfolding put
   lent-back w a k p = rw (add-sub-cancel-left a k)
-
--- for `simp`
-pub ruleset part-rules = (length-part, length-put, getD-part, getD-put-below, getD-put-in, getD-put-above, put-part, part-put, put-put, part-put-below, part-put-above)

@@ -1,23 +1,20 @@
 -- Laws of words as counts, and of rows.
-use mathlib.Core.Path.{_≡_, refl, sym, _∙_}
+use mathlib.Core.Path.{_≡_, refl, _∙_}
 use mathlib.Core.List.{List, [], _∷_}
-use Prim.Native.Nat.{ℕ, suc, _+_, _^_, _<_, _≤_}
+use Prim.Native.Nat.{ℕ, _+_, _^_, _<_, _≤_}
 use native.Mathlib.Omega.{arith}
-use lib.Dec.{ltb→lt}
+use lib.Dec.{leb, le→leb, ltb, ltb→lt, lt→ltb}
 use lib.IntN.{ℤ, pos, negsuc, natAbs}
-use lib.Signed.{_≤ℤ_, _<ℤ_}
+use lib.Signed.{_≤ℤ_, _<ℤ_, leZ-yes}
+use Rattle.whole.specs.Tells.{Tells}
+use Rattle.whole.specs.Laws.Order.{leZ-tells, ltZ-tells}
 use mir.Syntax.{Width}
 use mir.Val.{SFits, hbits}
 use native.Mathlib.Nat.{add-zero, add-assoc}
-use native.Mathlib.Numerals.{add-one, add-two, add-three}
-use lib.ListN.{length, getD, List·getD-eq-default, length-append}
-use lib.Seq.{drop-cons}
-use Rattle.words.specs.Parts.{part, put}
-use Rattle.words.specs.Laws.Parts.{length-put, getD-part, getD-put-below, getD-put-above, part-put, part-add, part-whole, put-beside}
-use Rattle.whole.specs.Within.{Within}
-use Rattle.words.specs.Layout.{nodeWords, nodeStart, nodeAt}
-use Rattle.words.specs.Laws.Layout.{word-nodeAt}
-use Rattle.words.specs.Words.{wordAt, natOf, rowAt, rowsAt, inLine, TwoRows}
+use lib.ListN.{length, List·getD-eq-default}
+use Rattle.words.specs.Parts.{part}
+use Rattle.words.specs.Laws.Parts.{part-four, getD-part, part-whole}
+use Rattle.words.specs.Words.{wordAt, natOf, rowAt, rowsAt}
 
 -- ---- a word as a count
 pub natOf-pos : (n : ℕ) → natOf (pos n) ≡ n
@@ -28,6 +25,17 @@ pub pos-natOf : (z : ℤ) → pos 0 ≤ℤ z → pos (natOf z) ≡ z
 unfolding natOf
 pos-natOf (pos n) h = refl
 pos-natOf (negsuc n) h = absurd (h .le)
+
+-- a count is low exactly when the word that is taken for it is
+pub natOf-tells : (z : ℤ) (n : ℕ) → Tells (leb (natOf z) n) (z ≤ℤ pos n)
+unfolding natOf
+natOf-tells (pos m) n = leZ-tells {a = pos m} {b = pos n}
+natOf-tells (negsuc m) n = record { sure = λ t. leZ-yes tt; seen = λ h. le→leb 0 n (omega arith) }
+
+pub natOf-below-tells : (z : ℤ) (n : ℕ) → 0 < n → Tells (ltb (natOf z) n) (z <ℤ pos n)
+unfolding natOf
+natOf-below-tells (pos m) n some = ltZ-tells {a = pos m} {b = pos n}
+natOf-below-tells (negsuc m) n some = record { sure = λ t. record { lt = tt }; seen = λ h. lt→ltb 0 n some }
 
 pub natOf-negative : (z : ℤ) → z <ℤ pos 0 → natOf z ≡ 0
 unfolding natOf
@@ -44,16 +52,7 @@ unfolding natOf
 natOf-fits w (pos n) f = f .sfits
 natOf-fits w (negsuc n) f = omega (arith, f .sfits)
 
-pub natOf-within : {bound : ℕ} (z : ℤ) → Within bound z → natOf z ≤ bound
-unfolding natOf
-natOf-within (pos n) h = h .abs
-natOf-within (negsuc n) h = omega arith
-
 -- ---- a row
-pub length-rowAt : (w : List ℤ) (at : ℕ) → length (rowAt w at) ≡ 4
-unfolding rowAt
-length-rowAt w at = refl
-
 pub rowAt-past : (w : List ℤ) (at : ℕ) → length w ≤ at → rowAt w at ≡ pos 0 ∷ pos 0 ∷ pos 0 ∷ pos 0 ∷ []
 unfolding rowAt
 rowAt-past w at h = rw (past at h, past (at + 1) (omega arith), past (at + 2) (omega arith), past (at + 3) (omega arith))
@@ -70,94 +69,18 @@ rowAt-same w v at b same =
 
 -- inside the table a row is a part of it
 pub rowAt-part : (w : List ℤ) (at : ℕ) → at + 4 ≤ length w → rowAt w at ≡ part w at 4
-unfolding rowAt part
-rowAt-part w at fits =
-    let h₀ : at < length w = omega arith in
-    let h₁ : suc at < length w = omega arith in
-    let h₂ : suc (suc at) < length w = omega arith in
-    let h₃ : suc (suc (suc at)) < length w = omega arith in
-    let z = pos 0 in
-    rw (add-one, add-two, add-three, drop-cons w at z, drop-cons w (suc at) z, drop-cons w (suc (suc at)) z, drop-cons w (suc (suc (suc at))) z)
+unfolding rowAt
+rowAt-part w at fits = part-four w at (pos 0) fits
 
 -- four words are a row
 pub rowAt-whole : (r : List ℤ) → length r ≡ 4 → rowAt r 0 ≡ r
 rowAt-whole r four = rowAt-part r 0 (omega arith) ∙ part-whole r 4 four
 
-pub rowsAt-part : (w : List ℤ) (at : ℕ) → at + 8 ≤ length w → inLine (rowsAt w at) ≡ part w at 8
-rowsAt-part w at fits = rw (rowAt-part w at (omega arith), rowAt-part w (at + 4) (omega arith)) (sym (part-add w at 4 4))
-
 -- a row of a part
 pub rowAt-in-part : (w : List ℤ) (a k at : ℕ) → at + 4 ≤ k → rowAt (part w a k) at ≡ rowAt w (a + at)
 rowAt-in-part w a k at h = rowAt-same (part w a k) w at (a + at) λ j l. getD-part w a k (at + j) (pos 0) (omega arith) ∙ rw (add-assoc a at j)
 
--- what was written is read back, and the rows before and after it are as they were
-pub rowAt-put : (w : List ℤ) (at : ℕ) (r : List ℤ) → at + 4 ≤ length w → length r ≡ 4 → rowAt (put w at 4 r) at ≡ r
-rowAt-put w at r fits long =
-    let fits′ : at + 4 ≤ length (put w at 4 r) = omega (arith, length-put w at 4 r fits long) in
-    rowAt-part (put w at 4 r) at fits′ ∙ part-put w at 4 r fits long
-
-pub rowAt-below : (w : List ℤ) (a k : ℕ) (p : List ℤ) (at : ℕ) → a + k ≤ length w → at + 4 ≤ a → rowAt (put w a k p) at ≡ rowAt w at
-rowAt-below w a k p at fits h = rowAt-same (put w a k p) w at at λ j l. getD-put-below w a k p (at + j) (pos 0) fits (omega arith)
-
-pub rowAt-above : (w : List ℤ) (a k : ℕ) (p : List ℤ) (at : ℕ) → a + k ≤ length w → length p ≡ k → a + k ≤ at → rowAt (put w a k p) at ≡ rowAt w at
-rowAt-above w a k p at fits long h =
-    rowAt-same (put w a k p) w at at λ j l. getD-put-above w a k p (at + j) (pos 0) fits long (omega arith)
-
 -- ---- two rows
-pub length-inLine : (b : List (List ℤ)) → TwoRows b → length (inLine b) ≡ 8
-length-inLine b h = simp length-append (omega (arith, h .first, h .second))
-
-pub rowsAt-put : (w : List ℤ) (at : ℕ) (b : List (List ℤ)) → at + 8 ≤ length w → TwoRows b → rowsAt (put w at 8 (inLine b)) at ≡ b
-rowsAt-put w at b fits h = rw (apart, first, second) (listed b (h .two))
-  where
-    r : List ℤ
-    r = getD b 0 []
-
-    s : List ℤ
-    s = getD b 1 []
-
-    half : List ℤ
-    half = put w at 4 r
-
-    long : length half ≡ length w
-    long = length-put w at 4 r (omega arith) (h .first)
-
-    apart : put w at 8 (inLine b) ≡ put half (at + 4) 4 s
-    apart = sym (put-beside w at 4 r 4 s (omega arith) (h .first))
-
-    first : rowAt (put half (at + 4) 4 s) at ≡ r
-    first = rowAt-below half (at + 4) 4 s at (omega (arith, long)) (omega arith) ∙ rowAt-put w at r (omega arith) (h .first)
-
-    second : rowAt (put half (at + 4) 4 s) (at + 4) ≡ s
-    second = rowAt-put half (at + 4) s (omega (arith, long)) (h .second)
-
-    listed : (b : List (List ℤ)) → length b ≡ 2 → getD b 0 [] ∷ getD b 1 [] ∷ [] ≡ b
-    listed [] e = absurd (omega arith)
-    listed (x ∷ []) e = absurd (omega arith)
-    listed (x ∷ y ∷ []) e = refl
-    listed (x ∷ y ∷ z ∷ l) e = absurd (omega arith)
-
 pub rowsAt-in-part : (w : List ℤ) (a k at : ℕ) → at + 8 ≤ k → rowsAt (part w a k) at ≡ rowsAt w (a + at)
 rowsAt-in-part w a k at h =
     rw (rowAt-in-part w a k at (omega arith), rowAt-in-part w a k (at + 4) (omega arith), add-assoc a at 4)
-
-pub rowsAt-below : (w : List ℤ) (a k : ℕ) (p : List ℤ) (at : ℕ) → a + k ≤ length w → at + 8 ≤ a → rowsAt (put w a k p) at ≡ rowsAt w at
-rowsAt-below w a k p at fits h =
-    rw (rowAt-below w a k p at fits (omega arith), rowAt-below w a k p (at + 4) fits (omega arith))
-
-pub rowsAt-above : (w : List ℤ) (a k : ℕ) (p : List ℤ) (at : ℕ) → a + k ≤ length w → length p ≡ k → a + k ≤ at → rowsAt (put w a k p) at ≡ rowsAt w at
-rowsAt-above w a k p at fits long h =
-    rw (rowAt-above w a k p at fits long h, rowAt-above w a k p (at + 4) fits long (omega arith))
-
--- ---- words of a node, by their place `b` in the table, however the code comes by it
-module _ (w : List ℤ) (i at b : ℕ) (place : b ≡ nodeStart i + at) where
-  pub word-of-node : at < nodeWords → wordAt w b ≡ wordAt (nodeAt w i) at
-  word-of-node h = rw place (sym (word-nodeAt w i at (pos 0) h))
-
-  pub row-of-node : at + 4 ≤ nodeWords → rowAt w b ≡ rowAt (nodeAt w i) at
-  unfolding nodeAt
-  row-of-node h = rw place (sym (rowAt-in-part w (nodeStart i) nodeWords at h))
-
-  pub rows-of-node : at + 8 ≤ nodeWords → rowsAt w b ≡ rowsAt (nodeAt w i) at
-  unfolding nodeAt
-  rows-of-node h = rw place (sym (rowsAt-in-part w (nodeStart i) nodeWords at h))

@@ -5,15 +5,6 @@ use borrow.Author.Needs.{needs}
 use Rattle.calls.proofs.changes.bradawlet_drop.Statement.{statement}
 use Rattle.calls.proofs.changes.bradawlet_drop.Tie as tie
 
-drop-requires : tie.Need-drop-requires
-drop-requires c κs = search needs
-
-number-requires : tie.Need-number-requires
-number-requires c κs = search needs
-
-same-length : tie.Need-same-length
-same-length c = search needs
-
 returns : tie.Need-returns
 returns c =
     let f = c .before .before .before .before .fits in
@@ -24,4 +15,4 @@ returns c =
     }
 
 pub bradawlet-drop-spec : {M : Type 1} → statement M
-bradawlet-drop-spec = tie.close (tie.spec drop-requires number-requires same-length returns)
+bradawlet-drop-spec = tie.close (tie.spec (λ c κs. search needs) (λ c κs. search needs) (λ c. search needs) returns)

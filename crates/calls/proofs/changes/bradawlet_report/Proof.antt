@@ -1,27 +1,23 @@
-use mathlib.Core.Path.{_∙_}
+use mathlib.Core.Path.{_≡_, _∙_}
 use Rattle.whole.specs.Laws.Within.{back, word-back}
+use Rattle.track.specs.Report.{reportFrom}
 use Rattle.tree.specs.Steps.{outcomeNumber}
 use borrow.Author.Needs.{needs}
 use Rattle.calls.proofs.changes.bradawlet_report.Statement.{statement}
 use Rattle.calls.proofs.changes.bradawlet_report.Tie as tie
 
-report-requires : tie.Need-report-requires
-report-requires c κs = search needs
-
-number-requires : tie.Need-number-requires
-number-requires c κs = search needs
-
-same-length : tie.Need-same-length
-same-length c = search needs
+-- the report, in the arguments' names
+report-is : (c : tie.After-report-from) → let a = c .before .args in c .report-from .result ≡ reportFrom (a .id) (a .x) (a .y) (a .vx) (a .vy) (a .minute) (a .expiry)
+report-is c = let f = c .before .fits in simp (back, f .id, f .x, f .y, f .vx, f .vy, f .minute, f .expiry) at (c .report-from .ensures)
 
 returns : tie.Need-returns
 returns c =
-    let f = c .before .before .before .before .fits in
+    let reported = c .before .before in
     record {
-      number = outcomeNumber (c .before .before .report .result);
+      number = outcomeNumber (reported .report .result);
       is = word-back (c .number .result) (c .number .ok) ∙ c .number .ensures;
-      steps = simp (back (f .id), back (f .x), back (f .y), back (f .vx), back (f .vy), back (f .minute), back (f .expiry)) at (c .before .before .report .ensures);
+      steps = rw (report-is (reported .before .before)) at (reported .report .ensures);
     }
 
 pub bradawlet-report-spec : {M : Type 1} → statement M
-bradawlet-report-spec = tie.close (tie.spec report-requires number-requires same-length returns)
+bradawlet-report-spec = tie.close (tie.spec (λ c κs. search needs) (λ c κs. search needs) (λ c κs. search needs) (λ c. search needs) returns)

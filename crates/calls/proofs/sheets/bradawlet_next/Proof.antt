@@ -5,18 +5,6 @@ use Rattle.sheet.specs.Sheet.{cellNumbers}
 use Rattle.calls.proofs.sheets.bradawlet_next.Statement.{statement}
 use Rattle.calls.proofs.sheets.bradawlet_next.Tie as tie
 
-step-from-requires : tie.Need-step-from-requires
-step-from-requires c κs = search needs
-
-next-cell-requires : tie.Need-next-cell-requires
-next-cell-requires c κs = search needs
-
-cell-numbers-requires : tie.Need-cell-numbers-requires
-cell-numbers-requires c κs = search needs
-
-is-given-requires : tie.Need-is-given-requires
-is-given-requires c κs = search needs
-
 returns : tie.Need-returns
 returns c =
     let s = c .before .before .before .before in
@@ -30,4 +18,4 @@ returns c =
     }
 
 pub bradawlet-next-spec : {M : Type 1} → statement M
-bradawlet-next-spec = tie.close (tie.spec step-from-requires next-cell-requires cell-numbers-requires is-given-requires returns)
+bradawlet-next-spec = tie.close (tie.spec (λ c κs. search needs) (λ c κs. search needs) (λ c κs. search needs) (λ c κs. search needs) returns)

@@ -4,15 +4,6 @@ use borrow.Author.Needs.{needs}
 use Rattle.calls.proofs.sheets.bradawlet_read.Statement.{statement}
 use Rattle.calls.proofs.sheets.bradawlet_read.Tie as tie
 
-read-sheet-requires : tie.Need-read-sheet-requires
-read-sheet-requires c κs = search needs
-
-number-requires : tie.Need-number-requires
-number-requires c κs = search needs
-
-same-length : tie.Need-same-length
-same-length c = search needs
-
 returns : tie.Need-returns
 returns c = record {
   outcome = c .before .before .read-sheet .result;
@@ -21,4 +12,4 @@ returns c = record {
 }
 
 pub bradawlet-read-spec : {M : Type 1} → statement M
-bradawlet-read-spec = tie.close (tie.spec read-sheet-requires number-requires same-length returns)
+bradawlet-read-spec = tie.close (tie.spec (λ c κs. search needs) (λ c κs. search needs) (λ c. search needs) returns)

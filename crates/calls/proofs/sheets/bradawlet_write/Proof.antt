@@ -4,14 +4,8 @@ use Rattle.sheet_write.specs.Laws.Written.{written-few}
 use Rattle.calls.proofs.sheets.bradawlet_write.Statement.{statement}
 use Rattle.calls.proofs.sheets.bradawlet_write.Tie as tie
 
-write-sheet-requires : tie.Need-write-sheet-requires
-write-sheet-requires c κs = search needs
-
 written-in-numbers-requires : tie.Need-written-in-numbers-requires
 written-in-numbers-requires c κs = record { small = written-few _ (c .before .before .before .write-sheet .ensures) }
-
-same-length : tie.Need-same-length
-same-length c = search needs
 
 returns : tie.Need-returns
 returns c = record {
@@ -21,4 +15,4 @@ returns c = record {
 }
 
 pub bradawlet-write-spec : {M : Type 1} → statement M
-bradawlet-write-spec = tie.close (tie.spec write-sheet-requires written-in-numbers-requires same-length returns)
+bradawlet-write-spec = tie.close (tie.spec (λ c κs. search needs) written-in-numbers-requires (λ c. search needs) returns)

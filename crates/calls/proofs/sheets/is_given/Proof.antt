@@ -4,12 +4,6 @@ use Rattle.calls.specs.SheetCalls.{isGiven}
 use Rattle.calls.proofs.sheets.is_given.Statement.{statement}
 use Rattle.calls.proofs.sheets.is_given.Tie as tie
 
-enum-told : tie.Need-enum-told
-enum-told c = search needs
-
-enum-told-2 : tie.Need-enum-told-2
-enum-told-2 c = search needs
-
 returns : tie.Need-returns
 returns c = ap isGiven (sym (c .enum-told .given .1))
 
@@ -17,4 +11,4 @@ returns-2 : tie.Need-returns-2
 returns-2 c = ap isGiven (sym (c .enum-told2 .given .1))
 
 pub is-given-spec : {M : Type 1} → statement M
-is-given-spec = tie.close (tie.spec enum-told enum-told-2 returns returns-2)
+is-given-spec = tie.close (tie.spec (λ c. search needs) (λ c. search needs) returns returns-2)

@@ -4,17 +4,8 @@ use Rattle.calls.specs.SheetCalls.{nextCell}
 use Rattle.calls.proofs.sheets.next_cell.Statement.{statement}
 use Rattle.calls.proofs.sheets.next_cell.Tie as tie
 
-enum-known-next : tie.Need-enum-known-next
-enum-known-next c = search needs
-
-enum-told : tie.Need-enum-told
-enum-told c = search needs
-
-returns : tie.Need-returns
-returns c = search needs
-
 returns-2 : tie.Need-returns-2
 returns-2 c = ap nextCell (sym (c .enum-told .given .1))
 
 pub next-cell-spec : {M : Type 1} → statement M
-next-cell-spec = tie.close (tie.spec enum-known-next enum-told returns returns-2)
+next-cell-spec = tie.close (tie.spec (λ c. search needs) (λ c. search needs) (λ c. search needs) returns-2)

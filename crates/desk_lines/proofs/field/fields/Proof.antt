@@ -5,7 +5,7 @@ use native.Mathlib.Omega.{arith}
 use lib.Dec.{leb, leb→le, le→leb}
 use Rattle.whole.specs.Laws.Within.{read32}
 use Rattle.desk_lines.specs.Inner.FieldsRead.{FieldRead}
-use Rattle.desk_lines.specs.Laws.Passing.{FieldsPassed, fields-passed-none, passed-next, passed-bad, passed-all}
+use Rattle.desk_lines.specs.Laws.Passing.{FieldsPassed, fields-passed-none, fields-passed-next, fields-passed-bad, fields-passed-all}
 use borrow.Author.Needs.{needs}
 use Rattle.desk_lines.proofs.field.fields.Statement.{statement}
 use Rattle.desk_lines.proofs.field.fields.Tie as tie
@@ -22,34 +22,13 @@ loop-holds c = fields-passed-none (c .before .pre)
 field-requires : tie.Need-field-requires Inv-loop μ-loop
 field-requires c κs = c .before .loop .inv .inside
 
-enum-known-z : tie.Need-enum-known-z Inv-loop μ-loop
-enum-known-z c = search needs
-
-enum-told : tie.Need-enum-told Inv-loop μ-loop
-enum-told c = search needs
-
-same-length : tie.Need-same-length Inv-loop μ-loop
-same-length c = search needs
-
 returns : tie.Need-returns Inv-loop μ-loop
 returns c =
     let turn = c .before .before .before in
     let at = turn .before in
     let s = at .before .before in
-    passed-bad (at .loop .inv) (omega (arith, at .loop .inv .long))
+    fields-passed-bad (at .loop .inv) (omega (arith, at .loop .inv .long))
     (subst (FieldRead (s .args .line .now) (at .loop .at)) (c .enum-told .given .1) (c .before .before .field .ensures))
-
-mul-z : tie.Need-mul-z Inv-loop μ-loop
-mul-z c = search needs
-
-slice-set-from-z : tie.Need-slice-set-from-z Inv-loop μ-loop
-slice-set-from-z c = search needs
-
-add-k : tie.Need-add-k Inv-loop μ-loop
-add-k c = search needs
-
-loop-less : tie.Need-loop-less Inv-loop μ-loop
-loop-less c = search needs
 
 loop-again : tie.Need-loop-again Inv-loop μ-loop
 loop-again c =
@@ -57,16 +36,13 @@ loop-again c =
     let at = read .before .before in
     let s = at .before .before in
     let next = subst (FieldRead (s .args .line .now) (at .loop .at)) (c .before .z .given .1) (read .field .ensures) in
-    rw (read32 tt (next .small)) (passed-next (at .loop .inv) (omega (arith, at .loop .inv .long)) next)
-
-same-length-2 : tie.Need-same-length-2 Inv-loop μ-loop
-same-length-2 c = search needs
+    rw (read32 tt (next .small)) (fields-passed-next (at .loop .inv) (omega (arith, at .loop .inv .long)) next)
 
 returns-2 : tie.Need-returns-2 Inv-loop μ-loop
 returns-2 c =
     let at = c .before in
     let end = length (at .before .before .args .line .now) in
-    passed-all (at .loop .inv) (leb end (at .loop .at)) (omega (arith, at .loop .inv .long)) (leb→le end (at .loop .at)) (le→leb end (at .loop .at))
+    fields-passed-all (at .loop .inv) (leb end (at .loop .at)) (omega (arith, at .loop .inv .long)) (leb→le end (at .loop .at)) (le→leb end (at .loop .at))
 
 pub fields-spec : {M : Type 1} → statement M
 fields-spec =
@@ -76,14 +52,14 @@ fields-spec =
     μ-loop
     loop-holds
     field-requires
-    enum-known-z
-    enum-told
-    same-length
+    (λ c. search needs)
+    (λ c. search needs)
+    (λ c. search needs)
     returns
-    mul-z
-    slice-set-from-z
-    add-k
-    loop-less
+    (λ c. search needs)
+    (λ c. search needs)
+    (λ c. search needs)
+    (λ c. search needs)
     loop-again
-    same-length-2
+    (λ c. search needs)
     returns-2)

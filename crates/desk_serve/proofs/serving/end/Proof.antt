@@ -6,18 +6,6 @@ use Rattle.desk_serve.proofs.serving.end.Tie as tie
 returns : tie.Need-returns
 returns c = let s = c .before .before .before in ends-without (s .pre .line-room) (s .args .t .now) (s .args .out .now) (c .if1 .taken)
 
-answer-held-requires : tie.Need-answer-held-requires
-answer-held-requires c κs = search needs
-
-same-length : tie.Need-same-length
-same-length c = search needs
-
-same-length-2 : tie.Need-same-length-2
-same-length-2 c = search needs
-
-same-length-3 : tie.Need-same-length-3
-same-length-3 c = search needs
-
 returns-2 : tie.Need-returns-2
 returns-2 c =
     let told = c .before .before .before .before in
@@ -28,4 +16,4 @@ returns-2 c =
 pub end-spec : {M : Type 1} → statement M
 end-spec =
     tie.close
-    (tie.spec returns answer-held-requires same-length same-length-2 same-length-3 returns-2)
+    (tie.spec returns (λ c κs. search needs) (λ c. search needs) (λ c. search needs) (λ c. search needs) returns-2)

@@ -7,12 +7,6 @@ use borrow.Author.Needs.{needs}
 use Rattle.leafing.proofs.search.last_after.Statement.{statement}
 use Rattle.leafing.proofs.search.last_after.Tie as tie
 
-enum-known-r : tie.Need-enum-known-r
-enum-known-r c = search needs
-
-enum-told : tie.Need-enum-told
-enum-told c = search needs
-
 returns : tie.Need-returns
 returns c =
     back {w = w32} (record { sfits = c .struct-told .given .0 .1 })
@@ -22,4 +16,4 @@ returns-2 : tie.Need-returns-2
 returns-2 c = back (c .before .before .fits .last) ∙ sym (ap (λ (r : Next). lastAfter r (c .before .before .args .last)) (c .enum-told .given .1))
 
 pub last-after-spec : {M : Type 1} → statement M
-last-after-spec = tie.close (tie.spec enum-known-r enum-told returns returns-2)
+last-after-spec = tie.close (tie.spec (λ c. search needs) (λ c. search needs) returns returns-2)

@@ -9,9 +9,6 @@ use Rattle.leafing.proofs.search.next_live.Tie as tie
 sound : (c : tie.Else1) → Sound (c .before .before .args .t .now)
 sound c = passed-not (c .before .is-sound .ensures) (c .if1 .left)
 
-is-sound-requires : tie.Need-is-sound-requires
-is-sound-requires c κs = search needs
-
 returns : tie.Need-returns
 returns c = steps-unsound (failed-not (c .before .is-sound .ensures) (c .if1 .taken))
 
@@ -24,4 +21,4 @@ returns-2 c =
     steps-sound (sound (c .before)) (s .args .last) _ (simp (back (s .fits .last)) at (c .next-of-sound .ensures))
 
 pub next-live-spec : {M : Type 1} → statement M
-next-live-spec = tie.close (tie.spec is-sound-requires returns next-of-sound-requires returns-2)
+next-live-spec = tie.close (tie.spec (λ c κs. search needs) returns next-of-sound-requires returns-2)

@@ -6,14 +6,8 @@ use borrow.Author.Needs.{needs}
 use Rattle.leafing.proofs.search.opening.Statement.{statement}
 use Rattle.leafing.proofs.search.opening.Tie as tie
 
-is-sound-requires : tie.Need-is-sound-requires
-is-sound-requires c κs = search needs
-
 returns : tie.Need-returns
 returns c = record { number = 0; is = refl; first = inr (λ n. n (passed (c .before .is-sound .ensures) (c .if1 .taken)), refl) }
-
-number-requires : tie.Need-number-requires
-number-requires c κs = search needs
 
 returns-2 : tie.Need-returns-2
 returns-2 c = record {
@@ -23,4 +17,4 @@ returns-2 c = record {
 }
 
 pub opening-spec : {M : Type 1} → statement M
-opening-spec = tie.close (tie.spec is-sound-requires returns number-requires returns-2)
+opening-spec = tie.close (tie.spec (λ c κs. search needs) returns (λ c κs. search needs) returns-2)

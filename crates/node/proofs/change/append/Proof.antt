@@ -1,37 +1,23 @@
-use Rattle.node.specs.Inner.Change.{appended}
+use Rattle.node.specs.Laws.Change.{appended, append-changes}
 use borrow.Author.Needs.{needs}
 use Rattle.node.proofs.change.append.Statement.{statement}
 use Rattle.node.proofs.change.append.Tie as tie
-
-count-requires : tie.Need-count-requires
-count-requires c κs = search needs
-
-put-entry-requires : tie.Need-put-entry-requires
-put-entry-requires c κs = search needs
-
-add-put-count : tie.Need-add-put-count
-add-put-count c = search needs
-
-put-count-requires : tie.Need-put-count-requires
-put-count-requires c κs = search needs
-
-same-length : tie.Need-same-length
-same-length c = search needs
 
 returns : tie.Need-returns
 unfolding appended
 returns c =
     let put = c .before .before .before .before .put-entry in
-    let n = c .before .before .before .before .before .before .count in
-    (rw (c .before .put-count .ensures, put .ensures .0, n .ensures), put .ensures .1)
+    let at = c .before .before .before .before .before .before in
+    let s = at .before .before in
+    rw (c .before .put-count .ensures, put .ensures .0, at .count .ensures) (append-changes (s .args .node .now) (s .args .e) (s .pre .0) (s .pre .1) (put .ensures .1))
 
 pub append-spec : {M : Type 1} → statement M
 append-spec =
     tie.close
     (tie.spec
-    count-requires
-    put-entry-requires
-    add-put-count
-    put-count-requires
-    same-length
+    (λ c κs. search needs)
+    (λ c κs. search needs)
+    (λ c. search needs)
+    (λ c κs. search needs)
+    (λ c. search needs)
     returns)

@@ -1,24 +1,15 @@
 use native.Mathlib.Omega.{arith}
-use Rattle.node.specs.Inner.Change.{removed}
+use Rattle.node.specs.Laws.Change.{removed, remove-changes}
 use Rattle.node.specs.Laws.Entry.{count-fits}
 use borrow.Author.Needs.{needs}
 use Rattle.node.proofs.change.remove.Statement.{statement}
 use Rattle.node.proofs.change.remove.Tie as tie
-
-count-requires : tie.Need-count-requires
-count-requires c κs = search needs
-
-sub-n : tie.Need-sub-n
-sub-n c = search needs
 
 entry-offset-requires : tie.Need-entry-offset-requires
 entry-offset-requires c κs = omega (arith, count-fits (c .before .before .args .node .now))
 
 add-copy-within : tie.Need-add-copy-within
 add-copy-within c = let few = count-fits (c .before .before .before .before .args .node .now) in search needs
-
-sub-copy-within : tie.Need-sub-copy-within
-sub-copy-within c = search needs
 
 mul-copy-within : tie.Need-mul-copy-within
 mul-copy-within c = let few = count-fits (c .before .before .before .before .args .node .now) in search needs
@@ -31,28 +22,26 @@ copy-within-requires c κs =
 put-count-requires : tie.Need-put-count-requires
 put-count-requires c κs = let few = count-fits (c .before .before .before .before .before .before .before .args .node .now) in search needs
 
-same-length : tie.Need-same-length
-same-length c = search needs
-
 returns : tie.Need-returns
 unfolding removed
 returns c =
     let moved = c .before .before .before .before .copy-within in
     let start = c .before .before .before .before .before .before .entry-offset in
-    let n = c .before .before .before .before .before .before .before .count in
-    rw (c .before .put-count .ensures, moved .ensures, start .ensures, n .ensures)
+    let at = c .before .before .before .before .before .before .before in
+    let s = at .before .before in
+    rw (c .before .put-count .ensures, moved .ensures, start .ensures, at .count .ensures) (remove-changes (s .args .node .now) (s .args .k) (s .pre .0) (s .pre .1))
 
 pub remove-spec : {M : Type 1} → statement M
 remove-spec =
     tie.close
     (tie.spec
-    count-requires
-    sub-n
+    (λ c κs. search needs)
+    (λ c. search needs)
     entry-offset-requires
     add-copy-within
-    sub-copy-within
+    (λ c. search needs)
     mul-copy-within
     copy-within-requires
     put-count-requires
-    same-length
+    (λ c. search needs)
     returns)

@@ -1,50 +1,35 @@
-use Rattle.words.specs.Layout.{setEntry}
-use Rattle.words.specs.Laws.Layout.{lent-node}
+use lib.ListN.{set}
+use Prim.Native.Nat.{_<_}
+use Rattle.words.specs.Laws.Layout.{lent-with}
+use Rattle.node.specs.Entry.{entryCount}
+use Rattle.node.specs.Laws.ChangeAt.{lent-changed}
 use borrow.Author.Needs.{needs}
 use Rattle.node.proofs.change_at.put_at.Statement.{statement}
 use Rattle.node.proofs.change_at.put_at.Tie as tie
 
-node-start-requires : tie.Need-node-start-requires
-node-start-requires c κs = search needs
-
-add-b : tie.Need-add-b
-add-b c = search needs
-
-mul-put-entry : tie.Need-mul-put-entry
-mul-put-entry c = search needs
-
-sub-put-entry : tie.Need-sub-put-entry
-sub-put-entry c = search needs
-
-part-put-entry-start : tie.Need-part-put-entry-start
-part-put-entry-start c = search needs
-
-part-put-entry-end : tie.Need-part-put-entry-end
-part-put-entry-end c = search needs
-
-put-entry-requires : tie.Need-put-entry-requires
-put-entry-requires c κs = search needs
-
-same-length : tie.Need-same-length
-same-length c = search needs
+put-requires : tie.Need-put-requires
+put-requires c κs =
+    let a = c .before .before .args in
+    lent-with (λ n. a .k < entryCount n) (a .t .now) (a .i) (c .before .node-start .result) (search needs) (search needs) (search needs)
 
 returns : tie.Need-returns
 returns c =
-    let a = c .before .before .before .before .args in
-    let start = c .before .before .before .node-start .result in
-    let call = c .before .put-entry in
-    (lent-node (λ n. setEntry n (a .k) (a .e)) (a .t .now) (a .i) start (call .last .0) (search needs) (call .ensures .0), call .ensures .1)
+    let s = c .before .before .before .before in
+    let a = s .args in
+    let start = c .before .before .before .node-start in
+    let call = c .before .put in
+    lent-changed (a .t .now) (a .i) (start .result) (start .ensures) (s .pre .0) (λ es. set es (a .k) (a .e)) (call .ensures)
 
 pub put-at-spec : {M : Type 1} → statement M
 put-at-spec =
     tie.close
     (tie.spec
-    node-start-requires
-    add-b
-    mul-put-entry
-    sub-put-entry
-    part-put-entry-start
-    part-put-entry-end
-    put-entry-requires
-    same-length
+    (λ c κs. search needs)
+    (λ c. search needs)
+    (λ c. search needs)
+    (λ c. search needs)
+    (λ c. search needs)
+    (λ c. search needs)
+    put-requires
+    (λ c. search needs)
     returns)

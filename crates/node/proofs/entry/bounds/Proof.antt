@@ -5,21 +5,6 @@ use borrow.Author.Needs.{needs}
 use Rattle.node.proofs.entry.bounds.Statement.{statement}
 use Rattle.node.proofs.entry.bounds.Tie as tie
 
-cell-requires : tie.Need-cell-requires
-cell-requires c κs = search needs
-
-cell-bounds-requires : tie.Need-cell-bounds-requires
-cell-bounds-requires c κs = search needs
-
-entry-offset-requires : tie.Need-entry-offset-requires
-entry-offset-requires c κs = search needs
-
-add-rows : tie.Need-add-rows
-add-rows c = search needs
-
-rows-requires : tie.Need-rows-requires
-rows-requires c κs = search needs
-
 returns : tie.Need-returns
 unfolding boundsOf
 returns c =
@@ -36,10 +21,10 @@ pub bounds-spec : {M : Type 1} → statement M
 bounds-spec =
     tie.close
     (tie.spec
-    cell-requires
-    cell-bounds-requires
-    entry-offset-requires
-    add-rows
-    rows-requires
+    (λ c κs. search needs)
+    (λ c κs. search needs)
+    (λ c κs. search needs)
+    (λ c. search needs)
+    (λ c κs. search needs)
     returns
     returns-2)

@@ -4,24 +4,6 @@ use borrow.Author.Needs.{needs}
 use Rattle.node.proofs.entry.cell.Statement.{statement}
 use Rattle.node.proofs.entry.cell.Tie as tie
 
-entry-word-requires : tie.Need-entry-word-requires
-entry-word-requires c κs = search needs
-
-entry-word-requires-2 : tie.Need-entry-word-requires-2
-entry-word-requires-2 c κs = search needs
-
-entry-word-requires-3 : tie.Need-entry-word-requires-3
-entry-word-requires-3 c κs = search needs
-
-entry-word-requires-4 : tie.Need-entry-word-requires-4
-entry-word-requires-4 c κs = search needs
-
-entry-word-requires-5 : tie.Need-entry-word-requires-5
-entry-word-requires-5 c κs = search needs
-
-entry-word-requires-6 : tie.Need-entry-word-requires-6
-entry-word-requires-6 c κs = search needs
-
 returns : tie.Need-returns
 unfolding cellOf
 returns c =
@@ -38,10 +20,10 @@ pub cell-spec : {M : Type 1} → statement M
 cell-spec =
     tie.close
     (tie.spec
-    entry-word-requires
-    entry-word-requires-2
-    entry-word-requires-3
-    entry-word-requires-4
-    entry-word-requires-5
-    entry-word-requires-6
+    (λ c κs. search needs)
+    (λ c κs. search needs)
+    (λ c κs. search needs)
+    (λ c κs. search needs)
+    (λ c κs. search needs)
+    (λ c κs. search needs)
     returns)

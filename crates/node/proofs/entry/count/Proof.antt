@@ -4,9 +4,6 @@ use borrow.Author.Needs.{needs}
 use Rattle.node.proofs.entry.count.Statement.{statement}
 use Rattle.node.proofs.entry.count.Tie as tie
 
-place-at-requires : tie.Need-place-at-requires
-place-at-requires c κs = search needs
-
 returns : tie.Need-returns
 unfolding entryCount
 returns c = omega arith
@@ -16,4 +13,4 @@ unfolding entryCount
 returns-2 c = omega arith
 
 pub count-spec : {M : Type 1} → statement M
-count-spec = tie.close (tie.spec place-at-requires returns returns-2)
+count-spec = tie.close (tie.spec (λ c κs. search needs) returns returns-2)

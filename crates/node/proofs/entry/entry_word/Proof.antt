@@ -6,15 +6,6 @@ use borrow.Author.Needs.{needs}
 use Rattle.node.proofs.entry.entry_word.Statement.{statement}
 use Rattle.node.proofs.entry.entry_word.Tie as tie
 
-entry-offset-requires : tie.Need-entry-offset-requires
-entry-offset-requires c κs = search needs
-
-add-word : tie.Need-add-word
-add-word c = search needs
-
-word-requires : tie.Need-word-requires
-word-requires c κs = search needs
-
 returns : tie.Need-returns
 returns c =
     let a = c .before .before .args in
@@ -22,4 +13,4 @@ returns c =
     word-back (read .result) (read .ok) ∙ read .ensures ∙ rw (c .before .entry-offset .ensures) (sym (word-entryAt (a .node .now) (a .k) (a .at) (pos 0) (search needs)))
 
 pub entry-word-spec : {M : Type 1} → statement M
-entry-word-spec = tie.close (tie.spec entry-offset-requires add-word word-requires returns)
+entry-word-spec = tie.close (tie.spec (λ c κs. search needs) (λ c. search needs) (λ c κs. search needs) returns)

@@ -4,12 +4,6 @@ use borrow.Author.Needs.{needs}
 use Rattle.node.proofs.entry.until.Statement.{statement}
 use Rattle.node.proofs.entry.until.Tie as tie
 
-entry-word-requires : tie.Need-entry-word-requires
-entry-word-requires c κs = search needs
-
-entry-word-requires-2 : tie.Need-entry-word-requires-2
-entry-word-requires-2 c κs = search needs
-
 returns : tie.Need-returns
 unfolding untilOf
 returns c = let w = c .entry-word in simp (c .before .if1 .taken, word-back (w .result) (w .ok)) (w .ensures)
@@ -19,4 +13,4 @@ unfolding untilOf
 returns-2 c = let w = c .entry-word2 in simp (c .before .if1 .left, word-back (w .result) (w .ok)) (w .ensures)
 
 pub until-spec : {M : Type 1} → statement M
-until-spec = tie.close (tie.spec entry-word-requires entry-word-requires-2 returns returns-2)
+until-spec = tie.close (tie.spec (λ c κs. search needs) (λ c κs. search needs) returns returns-2)

@@ -8,39 +8,6 @@ use borrow.Author.Needs.{needs}
 use Rattle.node.proofs.made.inner_entry.Statement.{statement}
 use Rattle.node.proofs.made.inner_entry.Tie as tie
 
-array-copy-out-x : tie.Need-array-copy-out-x
-array-copy-out-x c = search needs
-
-array-copy-out-y : tie.Need-array-copy-out-y
-array-copy-out-y c = search needs
-
-number-requires : tie.Need-number-requires
-number-requires c κs = search needs
-
-array-copy-out-t16 : tie.Need-array-copy-out-t16
-array-copy-out-t16 c = search needs
-
-array-copy-out-t19 : tie.Need-array-copy-out-t19
-array-copy-out-t19 c = search needs
-
-array-copy-out-t22 : tie.Need-array-copy-out-t22
-array-copy-out-t22 c = search needs
-
-array-copy-out-t25 : tie.Need-array-copy-out-t25
-array-copy-out-t25 c = search needs
-
-array-copy-out-t28 : tie.Need-array-copy-out-t28
-array-copy-out-t28 c = search needs
-
-array-copy-out-t31 : tie.Need-array-copy-out-t31
-array-copy-out-t31 c = search needs
-
-array-copy-out-t34 : tie.Need-array-copy-out-t34
-array-copy-out-t34 c = search needs
-
-array-copy-out-t37 : tie.Need-array-copy-out-t37
-array-copy-out-t37 c = search needs
-
 returns : tie.Need-returns
 unfolding innerEntry rowAt
 returns c =
@@ -62,15 +29,15 @@ pub inner-entry-spec : {M : Type 1} → statement M
 inner-entry-spec =
     tie.close
     (tie.spec
-    array-copy-out-x
-    array-copy-out-y
-    number-requires
-    array-copy-out-t16
-    array-copy-out-t19
-    array-copy-out-t22
-    array-copy-out-t25
-    array-copy-out-t28
-    array-copy-out-t31
-    array-copy-out-t34
-    array-copy-out-t37
+    (λ c. search needs)
+    (λ c. search needs)
+    (λ c κs. search needs)
+    (λ c. search needs)
+    (λ c. search needs)
+    (λ c. search needs)
+    (λ c. search needs)
+    (λ c. search needs)
+    (λ c. search needs)
+    (λ c. search needs)
+    (λ c. search needs)
     returns)

@@ -8,28 +8,10 @@ use borrow.Author.Needs.{needs}
 use Rattle.node.proofs.made.narrow_row.Statement.{statement}
 use Rattle.node.proofs.made.narrow_row.Tie as tie
 
-array-copy-out-narrow : tie.Need-array-copy-out-narrow
-array-copy-out-narrow c = search needs
-
-narrow-requires : tie.Need-narrow-requires
-narrow-requires c κs = search needs
-
-array-copy-out-narrow-2 : tie.Need-array-copy-out-narrow-2
-array-copy-out-narrow-2 c = search needs
-
-narrow-requires-2 : tie.Need-narrow-requires-2
-narrow-requires-2 c κs = search needs
-
-array-copy-out-narrow-3 : tie.Need-array-copy-out-narrow-3
-array-copy-out-narrow-3 c = search needs
-
 narrow-requires-3 : tie.Need-narrow-requires-3
 narrow-requires-3 c κs =
     let s = c .before .before .before .before .before in
     rw (read-at w64 (s .args .t1) 2 (c .narrow-arg3 .given)) (widen tt (s .pre .low-velocity-in))
-
-array-copy-out-narrow-4 : tie.Need-array-copy-out-narrow-4
-array-copy-out-narrow-4 c = search needs
 
 narrow-requires-4 : tie.Need-narrow-requires-4
 narrow-requires-4 c κs =
@@ -53,12 +35,12 @@ pub narrow-row-spec : {M : Type 1} → statement M
 narrow-row-spec =
     tie.close
     (tie.spec
-    array-copy-out-narrow
-    narrow-requires
-    array-copy-out-narrow-2
-    narrow-requires-2
-    array-copy-out-narrow-3
+    (λ c. search needs)
+    (λ c κs. search needs)
+    (λ c. search needs)
+    (λ c κs. search needs)
+    (λ c. search needs)
     narrow-requires-3
-    array-copy-out-narrow-4
+    (λ c. search needs)
     narrow-requires-4
     returns)

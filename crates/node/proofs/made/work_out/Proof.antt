@@ -15,19 +15,10 @@ x-is c = simp (back (c .before .before .fits .minute)) at (c .worked-row .ensure
 y-is : (c : tie.After-worked-row2) → let a = c .before .before .before .before .args in c .worked-row2 .result ≡ hullOn (a .leaf) 1 (a .minute) (entriesOf (a .child .now))
 y-is c = simp (back (c .before .before .before .before .fits .minute)) at (c .worked-row2 .ensures)
 
-latest-requires : tie.Need-latest-requires
-latest-requires c κs = search needs
-
-worked-row-requires : tie.Need-worked-row-requires
-worked-row-requires c κs = search needs
-
 narrow-row-requires : tie.Need-narrow-row-requires
 narrow-row-requires c κs =
     let s = c .before .before in
     rw (x-is c) (hullOn-kept (s .args .leaf) 0 (entriesOf (s .args .child .now)) (s .pre .0) (λ e m. s .pre .1 e m .x-in))
-
-worked-row-requires-2 : tie.Need-worked-row-requires-2
-worked-row-requires-2 c κs = search needs
 
 narrow-row-requires-2 : tie.Need-narrow-row-requires-2
 narrow-row-requires-2 c κs =
@@ -48,9 +39,9 @@ pub work-out-spec : {M : Type 1} → statement M
 work-out-spec =
     tie.close
     (tie.spec
-    latest-requires
-    worked-row-requires
+    (λ c κs. search needs)
+    (λ c κs. search needs)
     narrow-row-requires
-    worked-row-requires-2
+    (λ c κs. search needs)
     narrow-row-requires-2
     returns)

@@ -49,30 +49,6 @@ run-is c = read64 tt (run-in c)
 
 ruleset reads = (first-is, velocity-is, minute-is)
 
-mul-wide : tie.Need-mul-wide
-mul-wide c = search needs
-
-array-copy-out-wide : tie.Need-array-copy-out-wide
-array-copy-out-wide c = search needs
-
-wide-requires : tie.Need-wide-requires
-wide-requires c κs = search needs
-
-add-wide : tie.Need-add-wide
-add-wide c = search needs
-
-mul-wide-2 : tie.Need-mul-wide-2
-mul-wide-2 c = search needs
-
-array-copy-out-wide-2 : tie.Need-array-copy-out-wide-2
-array-copy-out-wide-2 c = search needs
-
-wide-requires-2 : tie.Need-wide-requires-2
-wide-requires-2 c κs = search needs
-
-wide-requires-3 : tie.Need-wide-requires-3
-wide-requires-3 c κs = search needs
-
 mul-result : tie.Need-mul-result
 mul-result c = simp reads (fits tt (run-in c))
 
@@ -94,14 +70,14 @@ pub column-at-spec : {M : Type 1} → statement M
 column-at-spec =
     tie.close
     (tie.spec
-    mul-wide
-    array-copy-out-wide
-    wide-requires
-    add-wide
-    mul-wide-2
-    array-copy-out-wide-2
-    wide-requires-2
-    wide-requires-3
+    (λ c. search needs)
+    (λ c. search needs)
+    (λ c κs. search needs)
+    (λ c. search needs)
+    (λ c. search needs)
+    (λ c. search needs)
+    (λ c κs. search needs)
+    (λ c κs. search needs)
     mul-result
     add-result
     returns

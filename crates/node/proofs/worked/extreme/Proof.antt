@@ -19,17 +19,11 @@ Inv-loop node leaf axis column stamp n found₀ k₀ found k = EntriesPassed (ou
 abbrev μ-loop : tie.MeasureT-loop
 μ-loop node leaf axis column stamp n found₀ k₀ found k = n - k
 
-count-requires : tie.Need-count-requires Inv-loop μ-loop
-count-requires c κs = search needs
-
 returns : tie.Need-returns Inv-loop μ-loop
 returns c =
     let a = c .before .before .args in
     let none = passed-none (outer (a .column)) (readingOf (a .leaf) (a .axis) (a .column) (a .stamp)) (a .node .now) (sym (c .before .count .ensures) ∙ c .if1 .taken) in
     (none, lit-in 0 tt)
-
-reading-requires : tie.Need-reading-requires Inv-loop μ-loop
-reading-requires c κs = search needs
 
 loop-holds : tie.Need-loop-holds Inv-loop μ-loop
 loop-holds c =
@@ -41,15 +35,6 @@ reading-requires-2 c κs =
     let s = c .before .before .before .before .before in
     let low : c .before .loop .k < fullNode = omega (arith, count-fits (s .args .node .now)) in
     simp (back (s .fits .stamp)) (low, s .pre .0, s .pre .1, s .pre .2)
-
-outer-requires : tie.Need-outer-requires Inv-loop μ-loop
-outer-requires c κs = search needs
-
-add-k : tie.Need-add-k Inv-loop μ-loop
-add-k c = search needs
-
-loop-less : tie.Need-loop-less Inv-loop μ-loop
-loop-less c = search needs
 
 loop-again : tie.Need-loop-again Inv-loop μ-loop
 loop-again c =
@@ -72,13 +57,13 @@ extreme-spec =
     (tie.spec
     Inv-loop
     μ-loop
-    count-requires
+    (λ c κs. search needs)
     returns
-    reading-requires
+    (λ c κs. search needs)
     loop-holds
     reading-requires-2
-    outer-requires
-    add-k
-    loop-less
+    (λ c κs. search needs)
+    (λ c. search needs)
+    (λ c. search needs)
     loop-again
     returns-2)

@@ -18,31 +18,16 @@ Inv-loop node leaf n found₀ k₀ found k = EntriesPassed greater (untilOf leaf
 abbrev μ-loop : tie.MeasureT-loop
 μ-loop node leaf n found₀ k₀ found k = n - k
 
-count-requires : tie.Need-count-requires Inv-loop μ-loop
-count-requires c κs = search needs
-
 returns : tie.Need-returns Inv-loop μ-loop
 returns c =
     let a = c .before .before .args in
     passed-none greater (untilOf (a .leaf)) (a .node .now) (sym (c .before .count .ensures) ∙ c .if1 .taken) ∙ latest-pass (a .leaf) _
-
-until-requires : tie.Need-until-requires Inv-loop μ-loop
-until-requires c κs = search needs
 
 loop-holds : tie.Need-loop-holds Inv-loop μ-loop
 loop-holds c = let u = c .until in passed-first (search needs) (word-back (u .result) (u .ok) ∙ u .ensures)
 
 until-requires-2 : tie.Need-until-requires-2 Inv-loop μ-loop
 until-requires-2 c κs = omega (arith, count-fits (c .before .before .before .before .before .args .node .now))
-
-later-requires : tie.Need-later-requires Inv-loop μ-loop
-later-requires c κs = search needs
-
-add-k : tie.Need-add-k Inv-loop μ-loop
-add-k c = search needs
-
-loop-less : tie.Need-loop-less Inv-loop μ-loop
-loop-less c = search needs
 
 loop-again : tie.Need-loop-again Inv-loop μ-loop
 loop-again c =
@@ -62,13 +47,13 @@ latest-spec =
     (tie.spec
     Inv-loop
     μ-loop
-    count-requires
+    (λ c κs. search needs)
     returns
-    until-requires
+    (λ c κs. search needs)
     loop-holds
     until-requires-2
-    later-requires
-    add-k
-    loop-less
+    (λ c κs. search needs)
+    (λ c. search needs)
+    (λ c. search needs)
     loop-again
     returns-2)

@@ -44,18 +44,6 @@ low-run c = mul-in (lowest c .1) (minute-in (c .before .before .pre .1))
 high-run : (c : tie.After-extreme2) → let s = c .before .before .before in Within (2 ^ 42 * 1440) (over s 3 *ℤ s .args .stamp)
 high-run c = mul-in (highest c .1) (minute-in (c .before .before .before .pre .1))
 
-wide-requires : tie.Need-wide-requires
-wide-requires c κs = search needs
-
-extreme-requires : tie.Need-extreme-requires
-extreme-requires c κs = search needs
-
-extreme-requires-2 : tie.Need-extreme-requires-2
-extreme-requires-2 c κs = search needs
-
-extreme-requires-3 : tie.Need-extreme-requires-3
-extreme-requires-3 c κs = search needs
-
 mul-t9 : tie.Need-mul-t9
 mul-t9 c = let l = c .before .before in simp (lowest l .0, minute-is) (fits tt (low-run l))
 
@@ -63,9 +51,6 @@ sub-t10 : tie.Need-sub-t10
 sub-t10 c =
     let l = c .before .before in
     simp (low c .0, lowest l .0, minute-is, read64 tt (low-run l)) (fits tt (sub-in (low c .1) (low-run l)))
-
-extreme-requires-4 : tie.Need-extreme-requires-4
-extreme-requires-4 c κs = search needs
 
 mul-t12 : tie.Need-mul-t12
 mul-t12 c = let h = c .before .before in simp (highest h .0, minute-is) (fits tt (high-run h))
@@ -89,13 +74,13 @@ pub worked-row-spec : {M : Type 1} → statement M
 worked-row-spec =
     tie.close
     (tie.spec
-    wide-requires
-    extreme-requires
-    extreme-requires-2
-    extreme-requires-3
+    (λ c κs. search needs)
+    (λ c κs. search needs)
+    (λ c κs. search needs)
+    (λ c κs. search needs)
     mul-t9
     sub-t10
-    extreme-requires-4
+    (λ c κs. search needs)
     mul-t12
     sub-t13
     returns)

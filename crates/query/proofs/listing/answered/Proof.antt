@@ -8,23 +8,11 @@ use Rattle.query.proofs.listing.answered.Tie as tie
 sound : (c : tie.Else1) → Sound (c .before .before .args .t .now)
 sound c = passed-not (c .before .is-sound .ensures) (c .if1 .left)
 
-is-sound-requires : tie.Need-is-sound-requires
-is-sound-requires c κs = search needs
-
 returns : tie.Need-returns
 returns c = answers-unsound (c .before .before .args .asked) (failed-not (c .before .is-sound .ensures) (c .if1 .taken))
 
-enum-known-asked : tie.Need-enum-known-asked
-enum-known-asked c = search needs
-
 listed-requires : tie.Need-listed-requires
 listed-requires c κs = can-ask (sound (c .before .before .before .before)) (c .before .before .before .before .before .before .pre) (c .before .before .asked .given .1)
-
-enum-known-asked-2 : tie.Need-enum-known-asked-2
-enum-known-asked-2 c = search needs
-
-same-length : tie.Need-same-length
-same-length c = search needs
 
 returns-2 : tie.Need-returns-2
 returns-2 c = answers-taken (sound (c .before .before .before .before .before .before)) (c .before .before .before .before .before .before .before .before .pre) (c .before .before .before .before .asked .given .1) (c .before .listed .ensures)
@@ -36,11 +24,11 @@ pub answered-spec : {M : Type 1} → statement M
 answered-spec =
     tie.close
     (tie.spec
-    is-sound-requires
+    (λ c κs. search needs)
     returns
-    enum-known-asked
+    (λ c. search needs)
     listed-requires
-    enum-known-asked-2
-    same-length
+    (λ c. search needs)
+    (λ c. search needs)
     returns-2
     returns-3)

@@ -3,23 +3,11 @@ use borrow.Author.Needs.{needs}
 use Rattle.query.proofs.listing.listed.Statement.{statement}
 use Rattle.query.proofs.listing.listed.Tie as tie
 
-slice-aggregate-gather : tie.Need-slice-aggregate-gather
-slice-aggregate-gather c = search needs
-
-gather-requires : tie.Need-gather-requires
-gather-requires c κs = search needs
-
 returns : tie.Need-returns
 returns c = answers-too-many (c .before .before .gather .ensures) _ (c .if1 .taken)
 
-slice-aggregate-put-ids : tie.Need-slice-aggregate-put-ids
-slice-aggregate-put-ids c = search needs
-
 put-ids-requires : tie.Need-put-ids-requires
 put-ids-requires c κs = can-write (c .before .before .before .before .gather .ensures) _ (c .before .before .before .before .before .before .pre) (c .before .before .if1 .left)
-
-same-length : tie.Need-same-length
-same-length c = search needs
 
 returns-2 : tie.Need-returns-2
 returns-2 c = answers-listed (c .before .before .before .before .before .before .gather .ensures) _ (c .before .before .before .before .if1 .left) (c .before .put-ids .ensures)
@@ -28,10 +16,10 @@ pub listed-spec : {M : Type 1} → statement M
 listed-spec =
     tie.close
     (tie.spec
-    slice-aggregate-gather
-    gather-requires
+    (λ c. search needs)
+    (λ c κs. search needs)
     returns
-    slice-aggregate-put-ids
+    (λ c. search needs)
     put-ids-requires
-    same-length
+    (λ c. search needs)
     returns-2)

@@ -1,14 +1,31 @@
-use Prim.Native.Nat.{_-_, _^_, _<_}
-use lib.ListN.{getD}
+use mathlib.Core.Path.{_≡_, refl, _∙_}
+use mathlib.Core.List.{List, [], _∷_, _++_, map, map-append}
+use Prim.Native.Nat.{ℕ, _+_, _-_, _^_, _≤_, _<_}
+use native.Mathlib.Numerals.{add-one}
+use native.Mathlib.Omega.{arith}
+use lib.IntN.{ℤ, pos}
+use lib.ListN.{length, getD, take, length-map}
+use lib.Seq.{take-suc, length-take-le}
 use mir.Syntax.{w32}
 use borrow.Author.Needs.{needs}
 use Rattle.whole.specs.Laws.Within.{read-nat}
-use Rattle.query.specs.Laws.IdsWritten.{IdsWritten, written-none, written-next, written-all}
+use Rattle.words.specs.Parts.{put}
+use Rattle.words.proofs.Runs.{RunWritten, written-none, filled-next, written-all}
 use Rattle.query.proofs.listing.put_ids.Statement.{statement}
 use Rattle.query.proofs.listing.put_ids.Tie as tie
 
+-- the first j keys as the list has them
+abbrev ids : List ℕ → ℕ → List ℤ
+ids keys j = map pos (take j keys)
+
+length-ids : (keys : List ℕ) (j : ℕ) → j ≤ length keys → length (ids keys j) ≡ j
+length-ids keys j le = length-map (take j keys) pos ∙ length-take-le j keys le
+
+ids-next : (keys : List ℕ) (j : ℕ) → j < length keys → ids keys (j + 1) ≡ ids keys j ++ (pos (getD keys j 0) ∷ [])
+ids-next keys j lt = rw (add-one j, take-suc keys j 0 lt, map-append)
+
 abbrev Inv-loop : tie.InvT-loop
-Inv-loop list₀ keys m j₀ list j = IdsWritten list₀ keys list m j
+Inv-loop list₀ keys m j₀ list j = RunWritten (ids keys) list₀ list 0 m j
 
 abbrev μ-loop : tie.MeasureT-loop
 μ-loop list₀ keys m j₀ list j = m - j
@@ -17,39 +34,22 @@ small : (c : tie.After-shared-slice-known Inv-loop μ-loop) → getD (c .before 
 small c = c .before .before .before .pre .small (c .before .before .loop .j) (search needs)
 
 loop-holds : tie.Need-loop-holds Inv-loop μ-loop
-loop-holds c = written-none _ _ _
-
-mul-list : tie.Need-mul-list Inv-loop μ-loop
-mul-list c = search needs
-
-shared-slice-read-list : tie.Need-shared-slice-read-list Inv-loop μ-loop
-shared-slice-read-list c = search needs
+loop-holds c = written-none refl
 
 cast-list : tie.Need-cast-list Inv-loop μ-loop
 cast-list c = record { sfits = small c }
 
-mul-t10 : tie.Need-mul-t10 Inv-loop μ-loop
-mul-t10 c = search needs
-
-slice-set-from-list : tie.Need-slice-set-from-list Inv-loop μ-loop
-slice-set-from-list c = search needs
-
-add-j : tie.Need-add-j Inv-loop μ-loop
-add-j c = search needs
-
-loop-less : tie.Need-loop-less Inv-loop μ-loop
-loop-less c = search needs
-
 loop-again : tie.Need-loop-again Inv-loop μ-loop
 loop-again c =
     let s = c .before .before .before in
-    let at = c .before .before .loop in
-    rw (read-nat w32 (getD (s .args .keys .now) (at .j) 0) (small c)) (written-next (s .pre) (at .inv) (search needs))
-
-same-length : tie.Need-same-length Inv-loop μ-loop
-same-length c = search needs
+    let l = c .before .before .loop in
+    let keys = s .args .keys .now in
+    let inside : l .j < length keys = omega (arith, s .pre .inside) in
+    rw (read-nat w32 (getD keys (l .j) 0) (small c))
+    (filled-next (l .inv) _ (s .pre .fits) (search needs) (length-ids keys (l .j) (omega (arith, inside))) (ids-next keys (l .j) inside))
 
 returns : tie.Need-returns Inv-loop μ-loop
+unfolding put
 returns c = written-all (c .before .loop .inv) (search needs)
 
 pub put-ids-spec : {M : Type 1} → statement M
@@ -59,13 +59,13 @@ put-ids-spec =
     Inv-loop
     μ-loop
     loop-holds
-    mul-list
-    shared-slice-read-list
+    (λ c. search needs)
+    (λ c. search needs)
     cast-list
-    mul-t10
-    slice-set-from-list
-    add-j
-    loop-less
+    (λ c. search needs)
+    (λ c. search needs)
+    (λ c. search needs)
+    (λ c. search needs)
     loop-again
-    same-length
+    (λ c. search needs)
     returns)

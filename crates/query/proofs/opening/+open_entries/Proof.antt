@@ -12,8 +12,9 @@ use Rattle.node.specs.Entry.{entryCount, childOf}
 use Rattle.node.specs.Laws.Entry.{count-fits}
 use Rattle.table.specs.SoundTree.{isLeaf}
 use Rattle.table.specs.Inner.Scan.{keyOf}
+use Rattle.table.specs.Laws.Walk.{no-entry-left, entry-left}
 use Rattle.query.specs.Opened.{EntryMeets}
-use Rattle.query.specs.Laws.Opening.{opens-none, opens-miss, opens-hit, opens-child, none-left, one-more, can-test, can-miss, hit-room, can-hit, node-fits, can-child, can-after}
+use Rattle.query.specs.Laws.Opening.{opens-none, opens-miss, opens-hit, opens-child, can-test, can-miss, hit-room, can-hit, node-fits, can-child, can-after}
 use Rattle.query.proofs.opening.open_entries.Reads as reads
 use Rattle.query.proofs.opening.open_entries.Kinds as kinds
 use Rattle.query.proofs.opening.+open_entries.Lts-open_entries as lts
@@ -21,7 +22,7 @@ use Rattle.node.proofs.entry.child.Reads as child-reads
 use Rattle.node.proofs.entry.count.Reads as count-reads
 use Rattle.query.proofs.opening.entry_meets.Reads as entry-meets-reads
 use Rattle.query.proofs.opening.key.Reads as key-reads
-use Rattle.table.proofs.scan.node_at.Reads as node-at-reads
+use Rattle.table.proofs.nodes.node_at.Reads as node-at-reads
 use Rattle.query.proofs.opening.+open_entries.{statement}
 use Rattle.query.proofs.opening.+open_entries.Tie.{close}
 
@@ -66,15 +67,15 @@ module _ (t : ℕ) where
   in-node c = let a = c .before .before .before .before .args in omega (arith, low c, count-fits (nodeAt (a .t .now) (a .i)))
 
   told : (c : lts.After-entry-meets (calls t) (entered t) reads.Post) → let a = c .before .before .before .before .before .args in
-      Tells (c .entry-meets .result) (EntryMeets (a .k) (isLeaf (a .height)) (entryAt (nodeAt (a .t .now) (a .i)) (a .from)))
+      Tells (c .entry-meets .result) (EntryMeets (a .q) (isLeaf (a .height)) (entryAt (nodeAt (a .t .now) (a .i)) (a .from)))
   told c = simp (node-is (c .before .before .before)) at (c .entry-meets .ensures)
 
   missed : (c : lts.Then2 (calls t) (entered t) reads.Post) → let a = c .before .before .before .before .before .before .args in
-      EntryMeets (a .k) (isLeaf (a .height)) (entryAt (nodeAt (a .t .now) (a .i)) (a .from)) → ⊥
+      EntryMeets (a .q) (isLeaf (a .height)) (entryAt (nodeAt (a .t .now) (a .i)) (a .from)) → ⊥
   missed c = failed-not (told (c .before)) (c .if2 .taken)
 
   met : (c : lts.Else2 (calls t) (entered t) reads.Post) → let a = c .before .before .before .before .before .before .args in
-      EntryMeets (a .k) (isLeaf (a .height)) (entryAt (nodeAt (a .t .now) (a .i)) (a .from))
+      EntryMeets (a .q) (isLeaf (a .height)) (entryAt (nodeAt (a .t .now) (a .i)) (a .from))
   met c = passed-not (told (c .before)) (c .if2 .left)
 
   key-is : (c : lts.After-key (calls t) (entered t) reads.Post) → let a = c .before .before .before .before .before .before .before .before .args in
@@ -90,13 +91,13 @@ module _ (t : ℕ) where
 
   -- ---- the needs
   node-at-requires : lts.Need-node-at-requires (calls t) (entered t) reads.Post
-  node-at-requires c κs = c .before .pre .1 .in-table
+  node-at-requires c κs = c .before .pre .1 .walk .in-table
 
   count-requires : lts.Need-count-requires (calls t) (entered t) reads.Post
   count-requires c κs = search needs
 
   returns : lts.Need-returns (calls t) (entered t) reads.Post
-  returns c = opens-none (none-left (c .before .before .before .before .pre .1) (omega (arith, c .if1 .taken, count-is (c .before))))
+  returns c = let s = c .before .before .before .before in opens-none (no-entry-left (s .pre .1 .walk) (s .args .from) (omega (arith, c .if1 .taken, count-is (c .before))))
 
   entry-meets-requires : lts.Need-entry-meets-requires (calls t) (entered t) reads.Post
   entry-meets-requires c κs = (in-node c, simp (node-is (c .before .before)) (can-test (c .before .before .before .before .pre .1) (low c)))
@@ -111,7 +112,7 @@ module _ (t : ℕ) where
   same-length c = search needs
 
   returns-2 : lts.Need-returns-2 (calls t) (entered t) reads.Post
-  returns-2 c = opens-miss (one-more (c .before .before .before .before .before .before .before .before .before .before .pre .1) (low (c .before .before .before .before .before .before))) (missed (c .before .before .before .before)) (c .before .before .open-entries .ensures)
+  returns-2 c = opens-miss (entry-left (c .before .before .before .before .before .before .before .before .before .before .pre .1 .walk) _ (low (c .before .before .before .before .before .before))) (missed (c .before .before .before .before)) (c .before .before .open-entries .ensures)
 
   key-requires : lts.Need-key-requires (calls t) (entered t) reads.Post
   key-requires c κs = in-node (c .before .before .before)
@@ -135,7 +136,7 @@ module _ (t : ℕ) where
   same-length-2 c = c .before .before .open-entries2 .ensures .keys-kept ∙ simp length-set
 
   returns-3 : lts.Need-returns-3 (calls t) (entered t) reads.Post
-  returns-3 c = opens-hit (one-more (c .before .before .before .before .before .before .before .before .before .before .before .before .pre .1) (low (c .before .before .before .before .before .before .before .before))) (key-is (c .before .before .before .before)) (c .before .before .before .before .before .if3 .taken) (met (c .before .before .before .before .before .before)) (free (c .before .before .before .before .before)) (c .before .before .open-entries2 .ensures)
+  returns-3 c = opens-hit (entry-left (c .before .before .before .before .before .before .before .before .before .before .before .before .pre .1 .walk) _ (low (c .before .before .before .before .before .before .before .before))) (key-is (c .before .before .before .before)) (c .before .before .before .before .before .if3 .taken) (met (c .before .before .before .before .before .before)) (free (c .before .before .before .before .before)) (c .before .before .open-entries2 .ensures)
 
   add-open-entries-4 : lts.Need-add-open-entries-4 (calls t) (entered t) reads.Post
   add-open-entries-4 c = omega (arith, node-fits (c .before .before .before .before .before .before .before .before .pre .1) (low (c .before .before .before .before)) (c .before .if3 .left) (met (c .before .before)))
@@ -159,7 +160,7 @@ module _ (t : ℕ) where
   same-length-3 c = search needs
 
   returns-4 : lts.Need-returns-4 (calls t) (entered t) reads.Post
-  returns-4 c = opens-child (one-more (c .before .before .before .before .before .before .before .before .before .before .before .before .before .before .before .before .before .pre .1) (low (c .before .before .before .before .before .before .before .before .before .before .before .before .before))) (child-is (c .before .before .before .before .before .before .before .before)) (c .before .before .before .before .before .before .before .before .before .before .if3 .left) (met (c .before .before .before .before .before .before .before .before .before .before .before)) (c .before .before .before .before .before .before .open-entries3 .ensures) (c .before .before .open-entries4 .ensures)
+  returns-4 c = opens-child (entry-left (c .before .before .before .before .before .before .before .before .before .before .before .before .before .before .before .before .before .pre .1 .walk) _ (low (c .before .before .before .before .before .before .before .before .before .before .before .before .before))) (child-is (c .before .before .before .before .before .before .before .before)) (c .before .before .before .before .before .before .before .before .before .before .if3 .left) (met (c .before .before .before .before .before .before .before .before .before .before .before)) (c .before .before .before .before .before .before .open-entries3 .ensures) (c .before .before .open-entries4 .ensures)
 
 pub +open-entries-spec : {M : Type 1} → statement M
 +open-entries-spec = close μ λ t.

@@ -11,17 +11,11 @@ use borrow.Author.Needs.{needs}
 use Rattle.query.proofs.opening.entry_meets.Statement.{statement}
 use Rattle.query.proofs.opening.entry_meets.Tie as tie
 
-until-is : (c : tie.After-until) → let a = c .before .args in toZ w32 (ofZ w32 (c .until .result)) ≡ untilOf (isLeaf (a .height)) (entryAt (a .node .now) (a .e))
+until-is : (c : tie.After-until) → let a = c .before .args in toZ w32 (ofZ w32 (c .until .result)) ≡ untilOf (isLeaf (a .height)) (entryAt (a .node .now) (a .k))
 until-is c = word-back (c .until .result) (c .until .ok) ∙ (rw leaf-test at (c .until .ensures))
 
-bounds-are : (c : tie.After-bounds) → let a = c .before .before .args in c .bounds .result ≡ boundsOf (isLeaf (a .height)) (entryAt (a .node .now) (a .e))
+bounds-are : (c : tie.After-bounds) → let a = c .before .before .args in c .bounds .result ≡ boundsOf (isLeaf (a .height)) (entryAt (a .node .now) (a .k))
 bounds-are c = rw leaf-test at (c .bounds .ensures)
-
-until-requires : tie.Need-until-requires
-until-requires c κs = search needs
-
-bounds-requires : tie.Need-bounds-requires
-bounds-requires c κs = search needs
 
 meets-requires : tie.Need-meets-requires
 meets-requires c κs =
@@ -33,4 +27,4 @@ returns : tie.Need-returns
 returns c = simp (bounds-are (c .before), until-is (c .before .before)) at (c .meets .ensures)
 
 pub entry-meets-spec : {M : Type 1} → statement M
-entry-meets-spec = tie.close (tie.spec until-requires bounds-requires meets-requires returns)
+entry-meets-spec = tie.close (tie.spec (λ c κs. search needs) (λ c κs. search needs) meets-requires returns)

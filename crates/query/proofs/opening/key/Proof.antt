@@ -7,12 +7,6 @@ use borrow.Author.Needs.{needs}
 use Rattle.query.proofs.opening.key.Statement.{statement}
 use Rattle.query.proofs.opening.key.Tie as tie
 
-cell-requires : tie.Need-cell-requires
-cell-requires c κs = search needs
-
-place-requires : tie.Need-place-requires
-place-requires c κs = search needs
-
 returns : tie.Need-returns
 returns c =
     let read = c .before .before .cell in
@@ -20,4 +14,4 @@ returns c =
     c .place .ensures .0 ∙ ap natOf (id ∙ ap (λ (x : Cell). x .id) (read .ensures))
 
 pub key-spec : {M : Type 1} → statement M
-key-spec = tie.close (tie.spec cell-requires place-requires returns)
+key-spec = tie.close (tie.spec (λ c κs. search needs) (λ c κs. search needs) returns)

@@ -6,44 +6,14 @@ use Rattle.sheet.specs.Laws.Bytes.{word-stored}
 use Rattle.sheet.proofs.bytes.put_word.Statement.{statement}
 use Rattle.sheet.proofs.bytes.put_word.Tie as tie
 
-unsigned-requires : tie.Need-unsigned-requires
-unsigned-requires c κs = search needs
-
-cast-bytes : tie.Need-cast-bytes
-cast-bytes c = search needs
-
-slice-write-bytes : tie.Need-slice-write-bytes
-slice-write-bytes c = search needs
-
-cast-bytes-2 : tie.Need-cast-bytes-2
-cast-bytes-2 c = search needs
-
-add-bytes : tie.Need-add-bytes
-add-bytes c = search needs
-
 slice-write-bytes-2 : tie.Need-slice-write-bytes-2
 slice-write-bytes-2 c = simp length-set (omega arith)
-
-cast-bytes-3 : tie.Need-cast-bytes-3
-cast-bytes-3 c = search needs
-
-add-bytes-2 : tie.Need-add-bytes-2
-add-bytes-2 c = search needs
 
 slice-write-bytes-3 : tie.Need-slice-write-bytes-3
 slice-write-bytes-3 c = simp length-set (omega arith)
 
-cast-bytes-4 : tie.Need-cast-bytes-4
-cast-bytes-4 c = search needs
-
-add-bytes-3 : tie.Need-add-bytes-3
-add-bytes-3 c = search needs
-
 slice-write-bytes-4 : tie.Need-slice-write-bytes-4
 slice-write-bytes-4 c = simp length-set (omega arith)
-
-same-length : tie.Need-same-length
-same-length c = search needs
 
 returns : tie.Need-returns
 returns c =
@@ -55,17 +25,17 @@ pub put-word-spec : {M : Type 1} → statement M
 put-word-spec =
     tie.close
     (tie.spec
-    unsigned-requires
-    cast-bytes
-    slice-write-bytes
-    cast-bytes-2
-    add-bytes
+    (λ c κs. search needs)
+    (λ c. search needs)
+    (λ c. search needs)
+    (λ c. search needs)
+    (λ c. search needs)
     slice-write-bytes-2
-    cast-bytes-3
-    add-bytes-2
+    (λ c. search needs)
+    (λ c. search needs)
     slice-write-bytes-3
-    cast-bytes-4
-    add-bytes-3
+    (λ c. search needs)
+    (λ c. search needs)
     slice-write-bytes-4
-    same-length
+    (λ c. search needs)
     returns)

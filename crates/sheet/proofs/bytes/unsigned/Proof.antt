@@ -1,6 +1,6 @@
 use mathlib.Core.Path.{_≡_}
 use native.Mathlib.Omega.{arith}
-use lib.IntN.{ℤ, pos, negsuc, _-ℤ_}
+use lib.IntN.{pos, negsuc, _-ℤ_}
 use lib.Signed.{_≤ℤ_, _<ℤ_, mag, yes-nonNeg}
 use mir.Syntax.{w32}
 use mir.Val.{toZ, ofZ}

@@ -23,8 +23,8 @@ abbrev μ-loop : tie.MeasureT-loop
 low : (c : tie.In-loop Inv-loop μ-loop) → c .before .loop .k < recordCount (c .before .before .before .before .before .args .bytes .now)
 low c = omega (arith, c .before .before .before .count-of .ensures .0)
 
-clock-is : (c : tie.After-read-word Inv-loop μ-loop) → toZ w32 (ofZ w32 (c .read-word .result)) ≡ clockOf (c .before .before .before .args .bytes .now)
-clock-is c = word-back (c .read-word .result) (c .read-word .ok) ∙ c .read-word .ensures
+clock-is : (c : tie.After-clock-of Inv-loop μ-loop) → toZ w32 (ofZ w32 (c .clock-of .result)) ≡ clockOf (c .before .before .before .args .bytes .now)
+clock-is c = word-back (c .clock-of .result) (c .clock-of .ok) ∙ c .clock-of .ensures
 
 told : (c : tie.After-follows Inv-loop μ-loop)
     → let bytes = c .before .before .before .before .before .before .before .args .bytes .now in
@@ -32,29 +32,11 @@ told : (c : tie.After-follows Inv-loop μ-loop)
     Tells (c .follows .result) (Follows (clockOf bytes) (toZ w32 (at .last)) (cellAt bytes (at .k)))
 told c = simp (clock-is (c .before .before .before .before), c .before .cell-at .ensures) at (c .follows .ensures)
 
-count-of-requires : tie.Need-count-of-requires Inv-loop μ-loop
-count-of-requires c κs = search needs
-
-read-word-requires : tie.Need-read-word-requires Inv-loop μ-loop
-read-word-requires c κs = search needs
-
 loop-holds : tie.Need-loop-holds Inv-loop μ-loop
 loop-holds c = none-passed
 
-cell-at-requires : tie.Need-cell-at-requires Inv-loop μ-loop
-cell-at-requires c κs = search needs
-
-follows-requires : tie.Need-follows-requires Inv-loop μ-loop
-follows-requires c κs = search needs
-
 returns : tie.Need-returns Inv-loop μ-loop
 returns c = one-failed (c .before .before .before .before .loop .inv) (low (c .before .before .before)) (failed-not (told (c .before)) (c .if1 .taken))
-
-add-k : tie.Need-add-k Inv-loop μ-loop
-add-k c = search needs
-
-loop-less : tie.Need-loop-less Inv-loop μ-loop
-loop-less c = search needs
 
 loop-again : tie.Need-loop-again Inv-loop μ-loop
 loop-again c =
@@ -72,13 +54,13 @@ records-sound-spec =
     (tie.spec
     Inv-loop
     μ-loop
-    count-of-requires
-    read-word-requires
+    (λ c κs. search needs)
+    (λ c κs. search needs)
     loop-holds
-    cell-at-requires
-    follows-requires
+    (λ c κs. search needs)
+    (λ c κs. search needs)
     returns
-    add-k
-    loop-less
+    (λ c. search needs)
+    (λ c. search needs)
     loop-again
     returns-2)

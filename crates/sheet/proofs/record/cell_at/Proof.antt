@@ -9,42 +9,6 @@ use Rattle.sheet.proofs.record.cell_at.Tie as tie
 returns : tie.Need-returns
 returns c = sym (cell-past (c .before .before .args .bytes .now) (c .before .before .args .k) (c .if1 .taken))
 
-total-for-requires : tie.Need-total-for-requires
-total-for-requires c κs = search needs
-
-read-word-requires : tie.Need-read-word-requires
-read-word-requires c κs = search needs
-
-add-read-word : tie.Need-add-read-word
-add-read-word c = search needs
-
-read-word-requires-2 : tie.Need-read-word-requires-2
-read-word-requires-2 c κs = search needs
-
-add-read-word-2 : tie.Need-add-read-word-2
-add-read-word-2 c = search needs
-
-read-word-requires-3 : tie.Need-read-word-requires-3
-read-word-requires-3 c κs = search needs
-
-add-read-word-3 : tie.Need-add-read-word-3
-add-read-word-3 c = search needs
-
-read-word-requires-4 : tie.Need-read-word-requires-4
-read-word-requires-4 c κs = search needs
-
-add-read-word-4 : tie.Need-add-read-word-4
-add-read-word-4 c = search needs
-
-read-word-requires-5 : tie.Need-read-word-requires-5
-read-word-requires-5 c κs = search needs
-
-add-read-word-5 : tie.Need-add-read-word-5
-add-read-word-5 c = search needs
-
-read-word-requires-6 : tie.Need-read-word-requires-6
-read-word-requires-6 c κs = search needs
-
 returns-2 : tie.Need-returns-2
 unfolding cellFrom
 returns-2 c =
@@ -63,16 +27,16 @@ cell-at-spec =
     tie.close
     (tie.spec
     returns
-    total-for-requires
-    read-word-requires
-    add-read-word
-    read-word-requires-2
-    add-read-word-2
-    read-word-requires-3
-    add-read-word-3
-    read-word-requires-4
-    add-read-word-4
-    read-word-requires-5
-    add-read-word-5
-    read-word-requires-6
+    (λ c κs. search needs)
+    (λ c κs. search needs)
+    (λ c. search needs)
+    (λ c κs. search needs)
+    (λ c. search needs)
+    (λ c κs. search needs)
+    (λ c. search needs)
+    (λ c κs. search needs)
+    (λ c. search needs)
+    (λ c κs. search needs)
+    (λ c. search needs)
+    (λ c κs. search needs)
     returns-2)

@@ -15,22 +15,10 @@ abbrev μ-loop : tie.MeasureT-loop
 loop-holds : tie.Need-loop-holds Inv-loop μ-loop
 loop-holds c = (search needs, freed-none _ _)
 
-keep-at-requires : tie.Need-keep-at-requires Inv-loop μ-loop
-keep-at-requires c κs = search needs
-
-add-i : tie.Need-add-i Inv-loop μ-loop
-add-i c = search needs
-
-loop-less : tie.Need-loop-less Inv-loop μ-loop
-loop-less c = search needs
-
 loop-again : tie.Need-loop-again Inv-loop μ-loop
 loop-again c =
     let at = c .before .before .before .before in
-    (search needs, rw (c .before .keep-at .ensures) (freed-more (at .loop .inv .1) (search needs) (at .before .pre)))
-
-same-length : tie.Need-same-length Inv-loop μ-loop
-same-length c = search needs
+    (search needs, freed-more (at .loop .inv .1) (search needs) (c .before .keep-at .ensures .0) (c .before .keep-at .ensures .1))
 
 returns : tie.Need-returns Inv-loop μ-loop
 returns c =
@@ -44,9 +32,9 @@ free-all-spec =
     Inv-loop
     μ-loop
     loop-holds
-    keep-at-requires
-    add-i
-    loop-less
+    (λ c κs. search needs)
+    (λ c. search needs)
+    (λ c. search needs)
     loop-again
-    same-length
+    (λ c. search needs)
     returns)

@@ -29,14 +29,8 @@ need-is c = c .words-for .ensures ∙ ap wordsFor (count-is (c .before))
 long-enough : (c : tie.Else2) → wordsFor (natOf (c .before .before .before .before .before .args .cells)) ≤ length (c .before .before .before .before .before .args .t .now)
 long-enough c = omega (arith, need-is (c .before), c .if2 .left)
 
-is-capacity-requires : tie.Need-is-capacity-requires
-is-capacity-requires c κs = search needs
-
 returns : tie.Need-returns
 returns c = record { refusal = inl (failed-not (told (c .before)) (c .if1 .taken), refl); accepted = not-zero 1; refused = λ n. refl }
-
-place-requires : tie.Need-place-requires
-place-requires c κs = search needs
 
 words-for-requires : tie.Need-words-for-requires
 words-for-requires c κs = omega (arith, count-is c, capacity-low (capacity-in (c .before)))
@@ -53,9 +47,6 @@ write-requires c κs =
     let s = c .before .before .before .before .before .before in
     simp (back (s .fits .cells)) (capacity-in (c .before .before .before .before), long-enough (c .before))
 
-same-length : tie.Need-same-length
-same-length c = search needs
-
 returns-3 : tie.Need-returns-3
 returns-3 c =
     let e = c .before .before .before in
@@ -71,11 +62,11 @@ pub fresh-spec : {M : Type 1} → statement M
 fresh-spec =
     tie.close
     (tie.spec
-    is-capacity-requires
+    (λ c κs. search needs)
     returns
-    place-requires
+    (λ c κs. search needs)
     words-for-requires
     returns-2
     write-requires
-    same-length
+    (λ c. search needs)
     returns-3)

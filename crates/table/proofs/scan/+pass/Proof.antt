@@ -17,7 +17,7 @@ use Rattle.table.proofs.scan.+pass.Lts-pass as lts
 use Rattle.node.proofs.entry.child.Reads as child-reads
 use Rattle.node.proofs.entry.count.Reads as count-reads
 use Rattle.table.proofs.scan.enter.Reads as enter-reads
-use Rattle.table.proofs.scan.node_at.Reads as node-at-reads
+use Rattle.table.proofs.nodes.node_at.Reads as node-at-reads
 use Rattle.table.proofs.scan.take_cell.Reads as take-cell-reads
 use Rattle.table.proofs.scan.+pass.{statement}
 use Rattle.table.proofs.scan.+pass.Tie.{close}

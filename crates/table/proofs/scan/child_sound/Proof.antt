@@ -25,23 +25,11 @@ is-in c = passed-not (told (c .before)) (c .if1 .left)
 child-is : (c : tie.After-place) → let a = c .before .before .before .before .args in c .place .result ≡ childOf (entryAt (a .n .now) (a .k))
 child-is c = simp (word-is (c .before .before .before)) at (c .place .ensures .0)
 
-child-word-requires : tie.Need-child-word-requires
-child-word-requires c κs = search needs
-
-is-node-requires : tie.Need-is-node-requires
-is-node-requires c κs = search needs
-
 returns : tie.Need-returns
 returns c = tells-false (λ s. failed-not (told (c .before)) (c .if1 .taken) (s .child-in))
 
-place-requires : tie.Need-place-requires
-place-requires c κs = search needs
-
 node-at-requires : tie.Need-node-at-requires
-node-at-requires c κs = let s = c .before .before .before .before in node-in-table (s .args .t .now) _ _ _ (s .pre .1) (is-in (c .before)) (child-is c)
-
-count-requires : tie.Need-count-requires
-count-requires c κs = search needs
+node-at-requires c κs = let s = c .before .before .before .before in node-in-table (s .args .t .now) _ _ _ (s .pre .0) (is-in (c .before)) (child-is c)
 
 returns-2 : tie.Need-returns-2
 returns-2 c =
@@ -53,10 +41,10 @@ pub child-sound-spec : {M : Type 1} → statement M
 child-sound-spec =
     tie.close
     (tie.spec
-    child-word-requires
-    is-node-requires
+    (λ c κs. search needs)
+    (λ c κs. search needs)
     returns
-    place-requires
+    (λ c κs. search needs)
     node-at-requires
-    count-requires
+    (λ c κs. search needs)
     returns-2)

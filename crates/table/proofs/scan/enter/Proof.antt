@@ -11,8 +11,10 @@ use Rattle.words.specs.Layout.{entryAt, nodeAt}
 use Rattle.node.specs.Entry.{childOf}
 use Rattle.table.specs.Header.{entriesAt}
 use Rattle.table.specs.SoundTree.{EntrySound}
-use Rattle.table.specs.Inner.Scan.{NodeCounted, entered-yes, entered-no}
-use Rattle.table.specs.Laws.ScanParts.{node-in-table, node-below}
+use Rattle.table.specs.Inner.Scan.{NodeCounted}
+use Rattle.table.specs.Laws.Scan.{entered-yes, entered-no}
+use Rattle.table.specs.Laws.Header.{node-below}
+use Rattle.table.specs.Laws.ScanParts.{node-in-table}
 use borrow.Author.Needs.{needs}
 use Rattle.table.proofs.scan.enter.Statement.{statement}
 use Rattle.table.proofs.scan.enter.Tie as tie
@@ -32,26 +34,17 @@ node-is c = c .node-at .ensures ∙ ap (nodeAt (c .before .before .before .befor
 told-count : (c : tie.After-is-counted) → let a = c .before .before .before .before .before .before .args in Tells (c .is-counted .result) (NodeCounted (a .t .now) (childOf (entryAt (a .n .now) (a .k))))
 told-count c = simp (node-is (c .before)) at (c .is-counted .ensures)
 
-entry-sound-requires : tie.Need-entry-sound-requires
-entry-sound-requires c κs = search needs
-
 returns : tie.Need-returns
 returns c = entered-no (λ e n z. failed-not (told (c .before)) (c .if1 .taken) e) refl
 
-child-requires : tie.Need-child-requires
-child-requires c κs = search needs
-
 node-at-requires : tie.Need-node-at-requires
-node-at-requires c κs = let s = c .before .before .before .before in node-in-table (s .args .t .now) _ _ _ (s .pre .1) (is-sound (c .before) .child-in) (c .child .ensures .0)
-
-is-counted-requires : tie.Need-is-counted-requires
-is-counted-requires c κs = search needs
+node-at-requires c κs = let s = c .before .before .before .before in node-in-table (s .args .t .now) _ _ _ (s .pre .0) (is-sound (c .before) .child-in) (c .child .ensures .0)
 
 returns-2 : tie.Need-returns-2
 returns-2 c = entered-no (λ e n z. failed-not (told-count (c .before)) (c .if2 .taken) n) refl
 
 slice-read-if3 : tie.Need-slice-read-if3
-slice-read-if3 c = omega (arith, node-below (is-sound (c .before .before .before .before .before) .child-in), c .before .before .before .before .child .ensures .0, c .before .before .before .before .before .before .before .before .pre .3)
+slice-read-if3 c = omega (arith, node-below (is-sound (c .before .before .before .before .before) .child-in), c .before .before .before .before .child .ensures .0, c .before .before .before .before .before .before .before .before .pre .2)
 
 returns-3 : tie.Need-returns-3
 returns-3 c =
@@ -59,10 +52,7 @@ returns-3 c =
     entered-no (λ e n z. c .if3 .taken (ap (λ (j : ℕ). getD marks j 0) (c .before .before .before .before .before .child .ensures .0) ∙ z)) refl
 
 slice-write-marks : tie.Need-slice-write-marks
-slice-write-marks c = omega (arith, node-below (is-sound (c .before .before .before .before .before .before) .child-in), c .before .before .before .before .before .child .ensures .0, c .before .before .before .before .before .before .before .before .before .pre .3)
-
-same-length : tie.Need-same-length
-same-length c = search needs
+slice-write-marks c = omega (arith, node-below (is-sound (c .before .before .before .before .before .before) .child-in), c .before .before .before .before .before .child .ensures .0, c .before .before .before .before .before .before .before .before .before .pre .2)
 
 returns-4 : tie.Need-returns-4
 returns-4 c =
@@ -78,14 +68,14 @@ pub enter-spec : {M : Type 1} → statement M
 enter-spec =
     tie.close
     (tie.spec
-    entry-sound-requires
+    (λ c κs. search needs)
     returns
-    child-requires
+    (λ c κs. search needs)
     node-at-requires
-    is-counted-requires
+    (λ c κs. search needs)
     returns-2
     slice-read-if3
     returns-3
     slice-write-marks
-    same-length
+    (λ c. search needs)
     returns-4)

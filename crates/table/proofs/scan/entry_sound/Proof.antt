@@ -32,26 +32,17 @@ told-stamp c = simp (entries-are (c .before), clock-is (c .before .before .befor
 stamped : (c : tie.Else2) → let a = c .before .before .before .before .before .before .args in StampSound (a .below) (a .clock) (entryAt (a .n .now) (a .k)) (entriesAt (a .t .now) (childOf (entryAt (a .n .now) (a .k))))
 stamped c = passed-not (told-stamp (c .before)) (c .if2 .left)
 
-child-sound-requires : tie.Need-child-sound-requires
-child-sound-requires c κs = search needs
-
 returns : tie.Need-returns
 returns c = tells-false (λ e. failed-not (c .before .child-sound .ensures) (c .if1 .taken) (child-sound e))
 
-child-requires : tie.Need-child-requires
-child-requires c κs = search needs
-
 node-at-requires : tie.Need-node-at-requires
-node-at-requires c κs = let s = c .before .before .before in node-in-table (s .args .t .now) _ _ _ (s .pre .1) (child-in (c .before) .child-in) (c .child .ensures .0)
-
-stamp-sound-requires : tie.Need-stamp-sound-requires
-stamp-sound-requires c κs = search needs
+node-at-requires c κs = let s = c .before .before .before in node-in-table (s .args .t .now) _ _ _ (s .pre .0) (child-in (c .before) .child-in) (c .child .ensures .0)
 
 returns-2 : tie.Need-returns-2
 returns-2 c = tells-false (λ e. failed-not (told-stamp (c .before)) (c .if2 .taken) (stamp-sound e))
 
 is-worked-out-requires : tie.Need-is-worked-out-requires
-is-worked-out-requires c κs = (c .before .before .before .before .before .before .pre .2, stamped c .stamp-in)
+is-worked-out-requires c κs = (c .before .before .before .before .before .before .pre .1, stamped c .stamp-in)
 
 returns-3 : tie.Need-returns-3
 returns-3 c =
@@ -63,11 +54,11 @@ pub entry-sound-spec : {M : Type 1} → statement M
 entry-sound-spec =
     tie.close
     (tie.spec
-    child-sound-requires
+    (λ c κs. search needs)
     returns
-    child-requires
+    (λ c κs. search needs)
     node-at-requires
-    stamp-sound-requires
+    (λ c κs. search needs)
     returns-2
     is-worked-out-requires
     returns-3)

@@ -22,9 +22,6 @@ abbrev μ-loop : tie.MeasureT-loop
 loop-holds : tie.Need-loop-holds Inv-loop μ-loop
 loop-holds c = none-before-first _ _
 
-count-requires : tie.Need-count-requires Inv-loop μ-loop
-count-requires c κs = search needs
-
 stamp-requires : tie.Need-stamp-requires Inv-loop μ-loop
 stamp-requires c κs = omega (arith, count-fits (c .before .before .before .args .n .now))
 
@@ -35,9 +32,6 @@ returns c =
     let lt : k < entryCount (s .args .n .now) = omega arith in
     let late = ltZ-true (simp (back (s .fits .last), word-back (c .before .stamp .result) (c .before .stamp .ok)) at (c .if2 .taken)) in
     tells-false (one-after (s .args .n .now) k (s .args .last) (c .before .stamp .result) lt (c .before .stamp .ensures) late)
-
-add-k : tie.Need-add-k Inv-loop μ-loop
-add-k c = search needs
 
 loop-less : tie.Need-loop-less Inv-loop μ-loop
 loop-less c = omega (arith, count-fits (c .before .before .before .before .before .args .n .now))
@@ -63,10 +57,10 @@ none-after-spec =
     Inv-loop
     μ-loop
     loop-holds
-    count-requires
+    (λ c κs. search needs)
     stamp-requires
     returns
-    add-k
+    (λ c. search needs)
     loop-less
     loop-again
     returns-2)

@@ -13,12 +13,6 @@ use Rattle.table.proofs.sound.free_unless.Tie as tie
 returns : tie.Need-returns
 returns c = tells-true (λ z. absurd (c .if1 .taken z))
 
-node-at-requires : tie.Need-node-at-requires
-node-at-requires c κs = search needs
-
-word-requires : tie.Need-word-requires
-word-requires c κs = search needs
-
 returns-2 : tie.Need-returns-2
 returns-2 c =
     let zero = equal-tells w32 (c .word .result) (pos 0) (sfits-of (c .word .ok)) (fits tt (lit-in 0 {bound = 0} tt)) in
@@ -26,4 +20,4 @@ returns-2 c =
     tells-as zero (λ e m. sym z ∙ e) (λ f. z ∙ f (c .before .before .if1 .left))
 
 pub free-unless-spec : {M : Type 1} → statement M
-free-unless-spec = tie.close (tie.spec returns node-at-requires word-requires returns-2)
+free-unless-spec = tie.close (tie.spec returns (λ c κs. search needs) (λ c κs. search needs) returns-2)

@@ -2,7 +2,8 @@ use Prim.Native.Nat.{_-_, _≤_}
 use native.Mathlib.Omega.{arith}
 use borrow.Author.Needs.{needs}
 use Rattle.whole.specs.Laws.Tells.{tells-true, tells-false, passed-not, failed-not}
-use Rattle.table.specs.Inner.SoundBy.{FreeTo, free-none, free-more}
+use Rattle.table.specs.Inner.SoundBy.{FreeTo}
+use Rattle.table.specs.Laws.SoundBy.{free-none, free-more}
 use Rattle.table.proofs.sound.rest_free.Statement.{statement}
 use Rattle.table.proofs.sound.rest_free.Tie as tie
 
@@ -15,20 +16,11 @@ abbrev μ-loop : tie.MeasureT-loop
 loop-holds : tie.Need-loop-holds Inv-loop μ-loop
 loop-holds c = (search needs, free-none _ _)
 
-shared-slice-read-free-unless : tie.Need-shared-slice-read-free-unless Inv-loop μ-loop
-shared-slice-read-free-unless c = search needs
-
 free-unless-requires : tie.Need-free-unless-requires Inv-loop μ-loop
 free-unless-requires c κs = omega arith
 
 returns : tie.Need-returns Inv-loop μ-loop
 returns c = let i = c .before .before .before .before .loop .i in tells-false (λ f. failed-not (c .before .free-unless .ensures) (c .if1 .taken) (f .free i (omega arith)))
-
-add-i : tie.Need-add-i Inv-loop μ-loop
-add-i c = search needs
-
-loop-less : tie.Need-loop-less Inv-loop μ-loop
-loop-less c = search needs
 
 loop-again : tie.Need-loop-again Inv-loop μ-loop
 loop-again c = (search needs, free-more _ _ _ (c .before .before .before .before .loop .inv .1) (passed-not (c .before .free-unless .ensures) (c .if1 .left)))
@@ -45,10 +37,10 @@ rest-free-spec =
     Inv-loop
     μ-loop
     loop-holds
-    shared-slice-read-free-unless
+    (λ c. search needs)
     free-unless-requires
     returns
-    add-i
-    loop-less
+    (λ c. search needs)
+    (λ c. search needs)
     loop-again
     returns-2)

@@ -75,20 +75,8 @@ w-v c = simp (c .wide5 .ensures, r-v) (read64 tt (c .before .before .before .bef
 
 ruleset reads = (r-start, r-span, r-climb, r-apart, r-spread, r-lead, r-run, w-second, w-first, w-first2, w-at, w-v)
 
-wide-requires : tie.Need-wide-requires
-wide-requires c κs = search needs
-
-wide-requires-2 : tie.Need-wide-requires-2
-wide-requires-2 c κs = search needs
-
 sub-climb : tie.Need-sub-climb
 sub-climb c = simp reads (fits tt (climb-in (c .before .before)))
-
-wide-requires-3 : tie.Need-wide-requires-3
-wide-requires-3 c κs = search needs
-
-wide-requires-4 : tie.Need-wide-requires-4
-wide-requires-4 c κs = search needs
 
 sub-t10 : tie.Need-sub-t10
 sub-t10 c = simp reads (fits tt (apart-in (c .before .before .before .before)))
@@ -101,9 +89,6 @@ mul-t12 c = let s = c .before .before .before .before in simp reads (fits tt (mu
 
 sub-t13 : tie.Need-sub-t13
 sub-t13 c = simp reads (fits tt (at-in (c .before .before .before .before)))
-
-wide-requires-5 : tie.Need-wide-requires-5
-wide-requires-5 c κs = search needs
 
 mul-t15 : tie.Need-mul-t15
 mul-t15 c = let s = c .before .before .before .before .before in simp reads (fits tt (mul-in (s .pre .5) (s .pre .3)))
@@ -118,16 +103,16 @@ pub gap-spec : {M : Type 1} → statement M
 gap-spec =
     tie.close
     (tie.spec
-    wide-requires
-    wide-requires-2
+    (λ c κs. search needs)
+    (λ c κs. search needs)
     sub-climb
-    wide-requires-3
-    wide-requires-4
+    (λ c κs. search needs)
+    (λ c κs. search needs)
     sub-t10
     mul-t11
     mul-t12
     sub-t13
-    wide-requires-5
+    (λ c κs. search needs)
     mul-t15
     sub-t16
     returns)

@@ -7,39 +7,12 @@ use Rattle.track.specs.Laws.Answer.{tells-yes, tells-no, tells-asked, te
 use Rattle.track.proofs.meeting.answer.Statement.{statement}
 use Rattle.track.proofs.meeting.answer.Tie as tie
 
-enum-known-reported : tie.Need-enum-known-reported
-enum-known-reported c = search needs
-
-enum-known-asked : tie.Need-enum-known-asked
-enum-known-asked c = search needs
-
 cell-meets-requires : tie.Need-cell-meets-requires
 cell-meets-requires c κs =
     let asked = c .before in
     let reported = asked .before .before .before in
     let s = reported .before .before in
     (subst KeptInRange (reported .reported .given .1) (s .pre .0) refl, subst TakenInRange (asked .asked .given .1) (s .pre .1) refl)
-
-enum-known-asked-2 : tie.Need-enum-known-asked-2
-enum-known-asked-2 c = search needs
-
-number-requires : tie.Need-number-requires
-number-requires c κs = search needs
-
-enum-known-reported-2 : tie.Need-enum-known-reported-2
-enum-known-reported-2 c = search needs
-
-enum-told : tie.Need-enum-told
-enum-told c = search needs
-
-number-requires-2 : tie.Need-number-requires-2
-number-requires-2 c κs = search needs
-
-enum-known-asked-3 : tie.Need-enum-known-asked-3
-enum-known-asked-3 c = search needs
-
-first-requires : tie.Need-first-requires
-first-requires c κs = search needs
 
 returns : tie.Need-returns
 returns c = tells-yes (c .before .before .before .before .before .before .reported .given .1) (c .before .before .before .asked .given .1) (passed (c .before .cell-meets .ensures) (c .if1 .taken))
@@ -66,16 +39,16 @@ pub answer-spec : {M : Type 1} → statement M
 answer-spec =
     tie.close
     (tie.spec
-    enum-known-reported
-    enum-known-asked
+    (λ c. search needs)
+    (λ c. search needs)
     cell-meets-requires
-    enum-known-asked-2
-    number-requires
-    enum-known-reported-2
-    enum-told
-    number-requires-2
-    enum-known-asked-3
-    first-requires
+    (λ c. search needs)
+    (λ c κs. search needs)
+    (λ c. search needs)
+    (λ c. search needs)
+    (λ c κs. search needs)
+    (λ c. search needs)
+    (λ c κs. search needs)
     returns
     returns-2
     returns-3

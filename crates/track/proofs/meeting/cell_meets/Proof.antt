@@ -5,9 +5,6 @@ use Rattle.track.specs.Laws.Small.{cell-bounds-in}
 use Rattle.track.proofs.meeting.cell_meets.Statement.{statement}
 use Rattle.track.proofs.meeting.cell_meets.Tie as tie
 
-cell-bounds-requires : tie.Need-cell-bounds-requires
-cell-bounds-requires c κs = search needs
-
 meets-requires : tie.Need-meets-requires
 meets-requires c κs =
     let s = c .before .before in
@@ -20,4 +17,4 @@ returns c =
     simp (c .before .before .cell-bounds .ensures, read32 tt (minute-in (s .pre .0 .expiry-in))) at (c .meets .ensures)
 
 pub cell-meets-spec : {M : Type 1} → statement M
-cell-meets-spec = tie.close (tie.spec cell-bounds-requires meets-requires returns)
+cell-meets-spec = tie.close (tie.spec (λ c κs. search needs) meets-requires returns)

@@ -16,12 +16,6 @@ use borrow.Author.Needs.{needs}
 use Rattle.tree.proofs.change.drop.Statement.{statement}
 use Rattle.tree.proofs.change.drop.Tie as tie
 
-is-sound-requires : tie.Need-is-sound-requires
-is-sound-requires c κs = search needs
-
-same-length : tie.Need-same-length
-same-length c = search needs
-
 -- ---- what the code knows at its places
 sound : (c : tie.Else1) → Sound (c .before .before .before .args .t .now)
 sound c = passed-not (c .before .is-sound .ensures) (c .if1 .left)
@@ -29,8 +23,8 @@ sound c = passed-not (c .before .is-sound .ensures) (c .if1 .left)
 in-range : (c : tie.Else2) → DropInRange (c .before .before .before .before .before .args .id) (c .before .before .before .before .before .args .minute)
 in-range c = passed-not (simp (back (c .before .before .before .before .before .fits .id), back (c .before .before .before .before .before .fits .minute)) at (c .before .drop-in-range .ensures)) (c .if2 .left)
 
-clock-back : (c : tie.After-word) → toZ w32 (ofZ w32 (c .word .result)) ≡ clock (c .before .before .before .before .before .before .before .args .t .now)
-clock-back c = word-back (c .word .result) (c .word .ok) ∙ c .word .ensures
+clock-back : (c : tie.After-clock) → toZ w32 (ofZ w32 (c .clock .result)) ≡ clock (c .before .before .before .before .before .before .before .args .t .now)
+clock-back c = word-back (c .clock .result) (c .clock .ok) ∙ c .clock .ensures
 
 later : (c : tie.Else3) → clock (c .before .before .before .before .before .before .before .before .args .t .now) ≤ℤ c .before .before .before .before .before .before .before .before .args .minute
 later c = ltZ-false (simp (back (c .before .before .before .before .before .before .before .before .fits .minute), clock-back (c .before)) at (c .if3 .left))
@@ -47,20 +41,8 @@ beside-is c = simp (back (c .before .before .before .before .before .before .bef
 returns : tie.Need-returns
 returns c = drop-unsound (failed-not (c .before .is-sound .ensures) (c .if1 .taken))
 
-drop-in-range-requires : tie.Need-drop-in-range-requires
-drop-in-range-requires c κs = search needs
-
-same-length-2 : tie.Need-same-length-2
-same-length-2 c = search needs
-
 returns-2 : tie.Need-returns-2
 returns-2 c = drop-out (sound (c .before .before)) (failed-not (simp (back (c .before .before .before .before .before .fits .id), back (c .before .before .before .before .before .fits .minute)) at (c .before .drop-in-range .ensures)) (c .if2 .taken))
-
-word-requires : tie.Need-word-requires
-word-requires c κs = search needs
-
-same-length-3 : tie.Need-same-length-3
-same-length-3 c = search needs
 
 returns-3 : tie.Need-returns-3
 returns-3 c = drop-before (sound (c .before .before .before .before .before)) (in-range (c .before .before .before)) (ltZ-true (simp (back (c .before .before .before .before .before .before .before .before .fits .minute), clock-back (c .before)) at (c .if3 .taken)))
@@ -71,20 +53,11 @@ staying-in-requires c κs = sound (c .before .before .before .before .before .be
 staying-in-requires-2 : tie.Need-staying-in-requires-2
 staying-in-requires-2 c κs = sound (c .before .before .before .before .before .before .before .before)
 
-same-length-4 : tie.Need-same-length-4
-same-length-4 c = search needs
-
 returns-4 : tie.Need-returns-4
 returns-4 c = drop-not-live (sound (c .before .before .before .before .before .before .before .before .before .before)) (in-range (c .before .before .before .before .before .before .before .before)) (later (c .before .before .before .before .before)) (omega (arith, all-is (c .before .before .before), beside-is (c .before), c .if4 .taken))
 
 clear-requires : tie.Need-clear-requires
 clear-requires c κs = simp (back (c .before .before .before .before .before .before .before .before .before .before .before .before .before .before .fits .minute)) (drop-holding (sound (c .before .before .before .before .before .before .before .before .before .before .before)) (in-range (c .before .before .before .before .before .before .before .before .before)) (later (c .before .before .before .before .before .before)))
-
-set-clock-requires : tie.Need-set-clock-requires
-set-clock-requires c κs = search needs
-
-same-length-5 : tie.Need-same-length-5
-same-length-5 c = search needs
 
 returns-5 : tie.Need-returns-5
 returns-5 c =
@@ -96,20 +69,20 @@ pub drop-spec : {M : Type 1} → statement M
 drop-spec =
     tie.close
     (tie.spec
-    is-sound-requires
-    same-length
+    (λ c κs. search needs)
+    (λ c. search needs)
     returns
-    drop-in-range-requires
-    same-length-2
+    (λ c κs. search needs)
+    (λ c. search needs)
     returns-2
-    word-requires
-    same-length-3
+    (λ c κs. search needs)
+    (λ c. search needs)
     returns-3
     staying-in-requires
     staying-in-requires-2
-    same-length-4
+    (λ c. search needs)
     returns-4
     clear-requires
-    set-clock-requires
-    same-length-5
+    (λ c κs. search needs)
+    (λ c. search needs)
     returns-5)

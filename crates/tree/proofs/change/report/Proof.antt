@@ -11,54 +11,34 @@ use borrow.Author.Needs.{needs}
 use Rattle.tree.proofs.change.report.Statement.{statement}
 use Rattle.tree.proofs.change.report.Tie as tie
 
-is-sound-requires : tie.Need-is-sound-requires
-is-sound-requires c κs = search needs
-
-same-length : tie.Need-same-length
-same-length c = search needs
-
 -- ---- what the code knows at its places
 sound : (c : tie.Else1) → Sound (c .before .before .before .args .t .now)
 sound c = passed-not (c .before .is-sound .ensures) (c .if1 .left)
 
-clock-back : (c : tie.After-word) → toZ w32 (ofZ w32 (c .word .result)) ≡ clock (c .before .before .before .before .before .args .t .now)
-clock-back c = word-back (c .word .result) (c .word .ok) ∙ c .word .ensures
+clock-back : (c : tie.After-clock) → toZ w32 (ofZ w32 (c .clock .result)) ≡ clock (c .before .before .before .before .before .args .t .now)
+clock-back c = word-back (c .clock .result) (c .clock .ok) ∙ c .clock .ensures
 
-reports-is : (c : tie.After-reported) → let a = c .before .before .before .before .before .before .args in Reports (clock (a .t .now)) (a .id) (a .x) (a .y) (a .vx) (a .vy) (a .minute) (a .expiry) (c .reported .result)
-reports-is c =
-    let f = c .before .before .before .before .before .before .fits in
-    simp (clock-back (c .before), back (f .id), back (f .x), back (f .y), back (f .vx), back (f .vy), back (f .minute), back (f .expiry)) at (c .reported .ensures)
+reports-is : (c : tie.After-reported) → let a = c .before .before .before .before .before .before .args in Reports (clock (a .t .now)) (a .r) (c .reported .result)
+reports-is c = simp (clock-back (c .before)) at (c .reported .ensures)
+
+minute-back : (s : tie.Start) → toZ w32 (ofZ w32 (s .args .r .minute)) ≡ s .args .r .minute
+minute-back s = back (record { sfits = s .good .1 .0 .1 .1 .1 .1 .1 .1 .1 .0 .1 })
 
 -- ---- the needs
 returns : tie.Need-returns
 returns c = report-unsound (failed-not (c .before .is-sound .ensures) (c .if1 .taken))
 
-word-requires : tie.Need-word-requires
-word-requires c κs = search needs
-
-reported-requires : tie.Need-reported-requires
-reported-requires c κs = search needs
-
-enum-known-reported : tie.Need-enum-known-reported
-enum-known-reported c = search needs
-
 take-in-requires : tie.Need-take-in-requires
 take-in-requires c κs =
-    let s = c .before .before .before .before .before .before .before .before .before .before in
-    simp (back (s .fits .minute)) (can-report (sound (c .before .before .before .before .before .before .before)) (reports-is (c .before .before .before .before)) (c .before .before .reported2 .given .1))
-
-enum-known-reported-2 : tie.Need-enum-known-reported-2
-enum-known-reported-2 c = search needs
-
-same-length-2 : tie.Need-same-length-2
-same-length-2 c = search needs
+    let reported = c .before .before .before .before .before in
+    let s = reported .before .before .before .before .before .before in
+    simp (minute-back s) (can-report (sound (reported .before .before .before)) (reports-is reported) (c .before .before .before .reported2 .given .1))
 
 returns-2 : tie.Need-returns-2
 returns-2 c =
-    report-taken (sound (c .before .before .before .before .before .before .before .before .before)) (reports-is (c .before .before .before .before .before .before)) (c .before .before .before .before .reported2 .given .1) (simp (back (c .before .before .before .before .before .before .before .before .before .before .before .before .fits .minute)) at (c .before .take-in .ensures))
-
-same-length-3 : tie.Need-same-length-3
-same-length-3 c = search needs
+    let reported = c .before .before .before .before .before .before .before in
+    let s = reported .before .before .before .before .before .before in
+    report-taken (sound (reported .before .before .before)) (reports-is reported) (c .before .before .before .before .before .reported2 .given .1) (simp (minute-back s) at (c .before .take-in .ensures))
 
 returns-3 : tie.Need-returns-3
 returns-3 c = report-refused (sound (c .before .before .before .before .before .before)) (reports-is (c .before .before .before)) (c .before .reported3 .given .1)
@@ -67,15 +47,15 @@ pub report-spec : {M : Type 1} → statement M
 report-spec =
     tie.close
     (tie.spec
-    is-sound-requires
-    same-length
+    (λ c κs. search needs)
+    (λ c. search needs)
     returns
-    word-requires
-    reported-requires
-    enum-known-reported
+    (λ c κs. search needs)
+    (λ c κs. search needs)
+    (λ c. search needs)
     take-in-requires
-    enum-known-reported-2
-    same-length-2
+    (λ c. search needs)
+    (λ c. search needs)
     returns-2
-    same-length-3
+    (λ c. search needs)
     returns-3)

@@ -8,18 +8,12 @@ use borrow.Author.Needs.{needs}
 use Rattle.tree.proofs.change.staying_in.Statement.{statement}
 use Rattle.tree.proofs.change.staying_in.Tie as tie
 
-place-at-requires : tie.Need-place-at-requires
-place-at-requires c κs = search needs
-
-place-at-requires-2 : tie.Need-place-at-requires-2
-place-at-requires-2 c κs = search needs
-
 -- ---- what the code knows at its places
-height-is : (c : tie.After-place-at) → c .place-at .result ≡ height (c .before .args .t .now)
-height-is c = c .place-at .ensures .0
+height-is : (c : tie.After-height) → c .height .result ≡ height (c .before .args .t .now)
+height-is c = c .height .ensures .0
 
-root-is : (c : tie.After-place-at2) → c .place-at2 .result ≡ root (c .before .before .args .t .now)
-root-is c = c .place-at2 .ensures .0
+root-is : (c : tie.After-root) → c .root .result ≡ root (c .before .before .args .t .now)
+root-is c = c .root .ensures .0
 
 staying-requires : tie.Need-staying-requires
 staying-requires c κs = simp (height-is (c .before), root-is c) (can-count-root (c .before .before .pre))
@@ -32,4 +26,4 @@ returns c =
 
 pub staying-in-spec : {M : Type 1} → statement M
 staying-in-spec =
-    tie.close (tie.spec place-at-requires place-at-requires-2 staying-requires returns)
+    tie.close (tie.spec (λ c κs. search needs) (λ c κs. search needs) staying-requires returns)

@@ -6,7 +6,7 @@ use Rattle.whole.specs.Laws.Within.{back}
 use Rattle.node.specs.Inner.Made.{leafEntry}
 use Rattle.table.specs.Header.{capacity}
 use Rattle.tree.specs.Inner.Clear.{Cleared}
-use Rattle.tree.specs.Inner.Headed.{Clocked}
+use Rattle.table.specs.Inner.Headed.{Clocked}
 use Rattle.tree.specs.Inner.PutCell.{PutCell}
 use Rattle.tree.specs.Inner.StayingCells.{manyStay}
 use Rattle.tree.specs.Laws.Stepping.{sound-holding}
@@ -15,21 +15,12 @@ use borrow.Author.Needs.{needs}
 use Rattle.tree.proofs.change.take_in.Statement.{statement}
 use Rattle.tree.proofs.change.take_in.Tie as tie
 
-place-at-requires : tie.Need-place-at-requires
-place-at-requires c κs = search needs
-
-staying-in-requires : tie.Need-staying-in-requires
-staying-in-requires c κs = search needs
-
-same-length : tie.Need-same-length
-same-length c = search needs
-
 -- ---- what the code knows at its places
 id-back : (s : tie.Start) → toZ w32 (ofZ w32 (s .args .c .id)) ≡ s .args .c .id
 id-back s = back (record { sfits = s .good .1 .0 .1 .1 .0 .1 })
 
-cells-is : (c : tie.After-place-at) → c .place-at .result ≡ capacity (c .before .before .args .t .now)
-cells-is c = c .place-at .ensures .0
+cells-is : (c : tie.After-capacity) → c .capacity .result ≡ capacity (c .before .before .args .t .now)
+cells-is c = c .capacity .ensures .0
 
 count-is : (c : tie.After-staying-in) → let a = c .before .before .before .before .before .args in c .staying-in .result ≡ manyStay (a .t .now) (a .minute) (a .c .id)
 count-is c = simp (back (c .before .before .before .before .before .fits .minute), id-back (c .before .before .before .before .before)) at (c .staying-in .ensures)
@@ -57,12 +48,6 @@ put-cell-requires c κs =
     let s = c .before .before .before .before .before .before .before .before .before .before .before in
     simp (back (s .fits .minute)) (room-left (s .pre) (omega (arith, cells-is (c .before .before .before .before .before .before .before .before .before), count-is (c .before .before .before .before .before .before), c .before .before .before .before .before .if1 .left)) (cleared-is (c .before .before)), s .pre .in-range)
 
-set-clock-requires : tie.Need-set-clock-requires
-set-clock-requires c κs = search needs
-
-same-length-2 : tie.Need-same-length-2
-same-length-2 c = search needs
-
 returns-2 : tie.Need-returns-2
 returns-2 c = cell-taken (c .before .before .before .before .before .before .before .before .before .before .before .before .before .before .before .before .pre) (omega (arith, cells-is (c .before .before .before .before .before .before .before .before .before .before .before .before .before .before), count-is (c .before .before .before .before .before .before .before .before .before .before .before), c .before .before .before .before .before .before .before .before .before .before .if1 .left)) (cleared-is (c .before .before .before .before .before .before .before)) (put-is (c .before .before .before .before)) (clocked-is (c .before))
 
@@ -70,12 +55,12 @@ pub take-in-spec : {M : Type 1} → statement M
 take-in-spec =
     tie.close
     (tie.spec
-    place-at-requires
-    staying-in-requires
-    same-length
+    (λ c κs. search needs)
+    (λ c κs. search needs)
+    (λ c. search needs)
     returns
     clear-requires
     put-cell-requires
-    set-clock-requires
-    same-length-2
+    (λ c κs. search needs)
+    (λ c. search needs)
     returns-2)

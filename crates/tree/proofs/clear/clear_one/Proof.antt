@@ -8,18 +8,12 @@ use borrow.Author.Needs.{needs}
 use Rattle.tree.proofs.clear.clear_one.Statement.{statement}
 use Rattle.tree.proofs.clear.clear_one.Tie as tie
 
-place-at-requires : tie.Need-place-at-requires
-place-at-requires c κs = search needs
-
-place-at-requires-2 : tie.Need-place-at-requires-2
-place-at-requires-2 c κs = search needs
-
 -- ---- what the code knows at its places
-height-is : (c : tie.After-place-at) → c .place-at .result ≡ height (c .before .before .args .t .now)
-height-is c = c .place-at .ensures .0
+height-is : (c : tie.After-height) → c .height .result ≡ height (c .before .before .args .t .now)
+height-is c = c .height .ensures .0
 
-root-is : (c : tie.After-place-at2) → c .place-at2 .result ≡ root (c .before .before .before .before .args .t .now)
-root-is c = c .place-at2 .ensures .0
+root-is : (c : tie.After-root) → c .root .result ≡ root (c .before .before .before .before .args .t .now)
+root-is c = c .root .ensures .0
 
 tried : (c : tie.After-take-out) → let a = c .before .before .before .before .before .before .args in let w = a .t .now in Takes w (a .minute) (a .id) (height w) (root w) 0 (c .take-out .result) (c .take-out .last .0)
 tried c = simp (back (c .before .before .before .before .before .before .fits .minute), back (c .before .before .before .before .before .before .fits .id), height-is (c .before .before .before .before), root-is (c .before .before)) at (c .take-out .ensures)
@@ -28,17 +22,11 @@ tried c = simp (back (c .before .before .before .before .before .before .fits .m
 take-out-requires : tie.Need-take-out-requires
 take-out-requires c κs = simp (back (c .before .before .before .before .before .fits .minute), height-is (c .before .before .before), root-is (c .before)) (can-take-root (c .before .before .before .before .before .pre))
 
-same-length : tie.Need-same-length
-same-length c = search needs
-
 returns : tie.Need-returns
 returns c = clears-none (tried (c .before .before)) (not-true (c .if1 .taken))
 
 settle-root-requires : tie.Need-settle-root-requires
 settle-root-requires c κs = record { minute = c .before .before .before .before .before .before .before .before .before .args .minute; loose = taken-loose (c .before .before .before .before .before .before .before .before .before .pre) (tried (c .before .before .before) .one (not-false (c .before .if1 .left))) }
-
-same-length-2 : tie.Need-same-length-2
-same-length-2 c = search needs
 
 returns-2 : tie.Need-returns-2
 returns-2 c =
@@ -50,11 +38,11 @@ pub clear-one-spec : {M : Type 1} → statement M
 clear-one-spec =
     tie.close
     (tie.spec
-    place-at-requires
-    place-at-requires-2
+    (λ c κs. search needs)
+    (λ c κs. search needs)
     take-out-requires
-    same-length
+    (λ c. search needs)
     returns
     settle-root-requires
-    same-length-2
+    (λ c. search needs)
     returns-2)

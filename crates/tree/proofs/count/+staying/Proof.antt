@@ -1,4 +1,4 @@
-use mathlib.Core.Path.{_≡_, sym, ap, _∙_, subst}
+use mathlib.Core.Path.{_≡_, sym, subst}
 use mathlib.Core.List.{[]}
 use Prim.Native.Nat.{ℕ, suc, _+_, _-_, _*_, _<_}
 use native.Mathlib.Omega.{arith}
@@ -9,22 +9,21 @@ use borrow.Fn.PlainCycle.{Measures, is, falls, and}
 use Rattle.whole.specs.Tells.{Tells}
 use Rattle.whole.specs.Laws.Tells.{passed, failed}
 use Rattle.whole.specs.Laws.Within.{back}
-use Rattle.words.specs.Layout.{fullNode, entryAt}
+use Rattle.words.specs.Layout.{fullNode}
 use Rattle.node.specs.Entry.{cellOf}
 use Rattle.table.specs.Header.{entriesAt}
-use Rattle.tree_nodes.specs.Laws.AtNode.{at-most, entry-here}
+use Rattle.table.specs.Laws.AtNode.{at-most}
 use Rattle.tree_nodes.specs.Laws.Kept.{ample-in}
 use Rattle.tree_nodes.specs.Inner.PartChild.{childAt}
 use Rattle.tree_laws.specs.Inner.Goes.{Goes}
-use Rattle.tree.specs.Inner.Staying.{stays, goes-none, stays-one, CanCount, stayFrom, stay-end, stay-leaf, stay-inner, stay-most, can-count-child}
+use Rattle.tree.specs.Inner.Staying.{stays, CanCount, stayFrom}
+use Rattle.tree.specs.Laws.Staying.{goes-none, stays-one, stay-end, stay-leaf, stay-inner, stay-most, can-count-child}
 use Rattle.tree.proofs.count.staying.Reads as reads
 use Rattle.tree.proofs.count.staying.Kinds as kinds
 use Rattle.tree.proofs.count.+staying.Lts-staying as lts
-use Rattle.node.proofs.entry.cell.Reads as cell-reads
-use Rattle.table.proofs.scan.node_at.Reads as node-at-reads
-use Rattle.tree_nodes.proofs.at.child_at.Reads as child-at-reads
-use Rattle.tree_nodes.proofs.at.count_at.Reads as count-at-reads
-use Rattle.tree_nodes.proofs.take.goes.Reads as goes-reads
+use Rattle.table.proofs.nodes.child_at.Reads as child-at-reads
+use Rattle.table.proofs.nodes.count_at.Reads as count-at-reads
+use Rattle.tree_nodes.proofs.take.goes_at.Reads as goes-at-reads
 use Rattle.tree.proofs.count.+staying.{statement}
 use Rattle.tree.proofs.count.+staying.Tie.{close}
 
@@ -44,12 +43,8 @@ calls t = (
   count-at-reads.Learnt,
   below t,
   reads.Post,
-  node-at-reads.Asked,
-  node-at-reads.Learnt,
-  cell-reads.Asked,
-  cell-reads.Learnt,
-  goes-reads.Asked,
-  goes-reads.Learnt,
+  goes-at-reads.Asked,
+  goes-at-reads.Learnt,
   child-at-reads.Asked,
   child-at-reads.Learnt,
 )
@@ -65,14 +60,9 @@ module _ (t : ℕ) where
   rest-is : (c : lts.After-staying (calls t) (entered t) reads.Post) → let a = c .before .before .before .args in c .staying .result ≡ stayFrom (a .t .now) (a .minute) (a .id) (a .h) (a .i) (a .k + 1)
   rest-is c = simp (back (c .before .before .before .fits .minute), back (c .before .before .before .fits .id)) at (c .staying .ensures)
 
-  told : (c : lts.After-goes (calls t) (entered t) reads.Post) → let a = c .before .before .before .before .before .before .before .args in
-      Tells (c .goes .result) (Goes (a .minute) (a .id) (cellOf (getD (entriesAt (a .t .now) (a .i)) (a .k) [])))
-  told c =
-      let s = c .before .before .before .before .before .before .before in
-      let a = s .args in
-      let cell-is : c .before .cell .result ≡ cellOf (getD (entriesAt (a .t .now) (a .i)) (a .k) []) =
-      c .before .cell .ensures ∙ ap (λ n. cellOf (entryAt n (a .k))) (c .before .before .node-at .ensures) ∙ ap cellOf (sym (entry-here (a .t .now) (a .i) (a .k) (low (c .before .before .before .before .before)))) in
-      simp (back (s .fits .minute), back (s .fits .id), cell-is) at (c .goes .ensures)
+  told : (c : lts.After-goes-at (calls t) (entered t) reads.Post) → let a = c .before .before .before .before .before .args in
+      Tells (c .goes-at .result) (Goes (a .minute) (a .id) (cellOf (getD (entriesAt (a .t .now) (a .i)) (a .k) [])))
+  told c = let s = c .before .before .before .before .before in simp (back (s .fits .minute), back (s .fits .id)) at (c .goes-at .ensures)
 
   leaf : (c : lts.Then2 (calls t) (entered t) reads.Post) → c .before .before .before .before .args .h ≡ 0
   leaf c = omega arith
@@ -103,33 +93,27 @@ module _ (t : ℕ) where
   staying-requires : lts.Need-staying-requires (calls t) (entered t) reads.Post
   staying-requires c κs = (omega (arith, in-node c, c .before .before .pre .0), c .before .before .pre .1)
 
-  node-at-requires : lts.Need-node-at-requires (calls t) (entered t) reads.Post
-  node-at-requires c κs = ample-in (c .before .before .before .before .pre .1 .ample) (c .before .before .before .before .args .i) (c .before .before .before .before .pre .1 .node-in)
+  goes-at-requires : lts.Need-goes-at-requires (calls t) (entered t) reads.Post
+  goes-at-requires c κs = (ample-in (c .before .before .before .before .pre .1 .ample) (c .before .before .before .before .args .i) (c .before .before .before .before .pre .1 .node-in), low (c .before .before))
 
-  cell-requires : lts.Need-cell-requires (calls t) (entered t) reads.Post
-  cell-requires c κs = in-node (c .before .before .before)
-
-  goes-requires : lts.Need-goes-requires (calls t) (entered t) reads.Post
-  goes-requires c κs = search needs
-
-  sum-leaf : (c : lts.After-goes (calls t) (entered t) reads.Post) → let a = c .before .before .before .before .before .before .before .args in
-      stayFrom (a .t .now) (a .minute) (a .id) (a .h) (a .i) (a .k) ≡ stays (a .minute) (a .id) (getD (entriesAt (a .t .now) (a .i)) (a .k) []) + c .before .before .before .before .staying .result
+  sum-leaf : (c : lts.After-goes-at (calls t) (entered t) reads.Post) → let a = c .before .before .before .before .before .args in
+      stayFrom (a .t .now) (a .minute) (a .id) (a .h) (a .i) (a .k) ≡ stays (a .minute) (a .id) (getD (entriesAt (a .t .now) (a .i)) (a .k) []) + c .before .before .staying .result
   sum-leaf c =
-      let a = c .before .before .before .before .before .before .before .args in
-      rw (rest-is (c .before .before .before .before), leaf (c .before .before .before)) (stay-leaf (a .t .now) (a .minute) (a .id) (a .i) (a .k) (low (c .before .before .before .before .before)))
+      let a = c .before .before .before .before .before .args in
+      rw (rest-is (c .before .before), leaf (c .before)) (stay-leaf (a .t .now) (a .minute) (a .id) (a .i) (a .k) (low (c .before .before .before)))
 
   returns-2 : lts.Need-returns-2 (calls t) (entered t) reads.Post
   returns-2 c =
-      let a = c .before .before .before .before .before .before .before .before .args in
+      let a = c .before .before .before .before .before .before .args in
       omega (arith, sum-leaf (c .before), goes-none (a .minute) (a .id) (getD (entriesAt (a .t .now) (a .i)) (a .k) []) (passed (told (c .before)) (c .if3 .taken)))
 
-  one-more : (c : lts.Else3 (calls t) (entered t) reads.Post) → let a = c .before .before .before .before .before .before .before .before .args in stayFrom (a .t .now) (a .minute) (a .id) (a .h) (a .i) (a .k) ≡ c .before .before .before .before .before .staying .result + 1
+  one-more : (c : lts.Else3 (calls t) (entered t) reads.Post) → let a = c .before .before .before .before .before .before .args in stayFrom (a .t .now) (a .minute) (a .id) (a .h) (a .i) (a .k) ≡ c .before .before .before .staying .result + 1
   one-more c =
-      let a = c .before .before .before .before .before .before .before .before .args in
+      let a = c .before .before .before .before .before .before .args in
       omega (arith, sum-leaf (c .before), stays-one (a .minute) (a .id) (getD (entriesAt (a .t .now) (a .i)) (a .k) []) (failed (told (c .before)) (c .if3 .left)))
 
   add-result : lts.Need-add-result (calls t) (entered t) reads.Post
-  add-result c = let a = c .before .before .before .before .before .before .before .before .args in omega (arith, one-more c, stay-most (a .t .now) (a .minute) (a .id) (a .i) (a .k) (a .h) (c .before .before .before .before .before .before .before .before .pre .1))
+  add-result c = let a = c .before .before .before .before .before .before .args in omega (arith, one-more c, stay-most (a .t .now) (a .minute) (a .id) (a .i) (a .k) (a .h) (c .before .before .before .before .before .before .pre .1))
 
   returns-3 : lts.Need-returns-3 (calls t) (entered t) reads.Post
   returns-3 c = sym (one-more c)
@@ -164,9 +148,7 @@ pub +staying-spec : {M : Type 1} → statement M
     (returns t)
     (add-staying t)
     (staying-requires t)
-    (node-at-requires t)
-    (cell-requires t)
-    (goes-requires t)
+    (goes-at-requires t)
     (returns-2 t)
     (add-result t)
     (returns-3 t)

@@ -8,36 +8,24 @@ use Rattle.node.specs.Inner.ChangeAt.{Changed}
 use Rattle.table.specs.Header.{capacity, root, height, nodesFor, entriesAt}
 use Rattle.table.specs.SoundTree.{isLeaf}
 use Rattle.table.specs.Laws.ScanParts.{leaf-test}
-use Rattle.tree_nodes.specs.Laws.AtNode.{length-at, appended-at}
+use Rattle.table.specs.Laws.AtNode.{length-at, changed-at}
 use Rattle.tree_nodes.specs.Inner.FirstFree.{FirstFree}
 use Rattle.tree_nodes.specs.Inner.EntryAfresh.{entryAbove}
-use Rattle.tree.specs.Inner.Headed.{Rooted}
+use Rattle.table.specs.Inner.Headed.{Rooted}
 use Rattle.tree_nodes.specs.Inner.PartChild.{Parted}
 use Rattle.tree.specs.Laws.Grow.{root-in-table, root-low, root-in-range, height-low, above-in-table, above-low, above-room, long, can-part-root, grown}
 use Rattle.tree.proofs.root.grow.Statement.{statement}
 use Rattle.tree.proofs.root.grow.Tie as tie
 
-place-at-requires : tie.Need-place-at-requires
-place-at-requires c κs = search needs
-
-place-at-requires-2 : tie.Need-place-at-requires-2
-place-at-requires-2 c κs = search needs
-
-nodes-of-requires : tie.Need-nodes-of-requires
-nodes-of-requires c κs = search needs
-
-free-node-requires : tie.Need-free-node-requires
-free-node-requires c κs = search needs
-
 -- ---- what the code knows at its places
-root-is : (c : tie.After-place-at) → c .place-at .result ≡ root (c .before .before .args .t .now)
-root-is c = c .place-at .ensures .0
+root-is : (c : tie.After-root) → c .root .result ≡ root (c .before .before .args .t .now)
+root-is c = c .root .ensures .0
 
-height-is : (c : tie.After-place-at2) → c .place-at2 .result ≡ height (c .before .before .before .before .args .t .now)
-height-is c = c .place-at2 .ensures .0
+height-is : (c : tie.After-height) → c .height .result ≡ height (c .before .before .before .before .args .t .now)
+height-is c = c .height .ensures .0
 
 first-is : (c : tie.After-free-node) → let w = c .before .before .before .before .before .before .before .args .t .now in FirstFree (entriesAt w) (nodesFor (capacity w)) (c .free-node .result)
-first-is c = rw (c .before .nodes-of .ensures) at (c .free-node .ensures)
+first-is c = rw (c .before .nodes .ensures) at (c .free-node .ensures)
 
 above-is : (c : tie.After-entry-above) → let a = c .before .before .before .before .before .before .before .before .before .args in let w = a .t .now in c .entry-above .result ≡ entryAbove (entriesAt w) (isLeaf (height w)) (a .minute) (root w)
 above-is c = simp (back (c .before .before .before .before .before .before .before .before .before .fits .minute), leaf-test, root-is (c .before .before .before .before .before .before .before), height-is (c .before .before .before .before .before)) at (c .entry-above .ensures)
@@ -48,9 +36,7 @@ put-is c =
     let s = c .before .before .before .before .before .before .before .before .before .before .before in
     let w = s .args .t .now in
     let above = c .before .before .before .before .free-node .result in
-    let put = c .append-at .ensures in
-    let first = first-is (c .before .before .before .before) in
-    rw (← above-is (c .before .before), put .0) (appended-at w above (above-in-table (s .pre) first) _ (above-room (s .pre) first) (put .1))
+    rw (← above-is (c .before .before)) (changed-at w above (λ es. es ++ c .before .before .entry-above .result ∷ []) (c .append-at .ensures))
 
 rooted-is : (c : tie.After-set-root) → Rooted (c .before .before .before .append-at .last .0) (c .before .before .before .before .before .before .before .free-node .result) (height (c .before .before .before .before .before .before .before .before .before .before .before .before .before .before .args .t .now) + 1) (c .set-root .last .0)
 rooted-is c = rw (height-is (c .before .before .before .before .before .before .before .before .before .before)) at (c .set-root .ensures)
@@ -71,9 +57,6 @@ append-at-requires c κs =
     let first = first-is (c .before .before .before) in
     (above-in-table (s .pre) first, omega (arith, above-room (s .pre) first, length-at (s .args .t .now) above))
 
-add-set-root : tie.Need-add-set-root
-add-set-root c = search needs
-
 set-root-requires : tie.Need-set-root-requires
 set-root-requires c κs =
     let s = c .before .before .before .before .before .before .before .before .before .before .before .before .before in
@@ -85,9 +68,6 @@ part-child-requires c κs =
     let s = c .before .before .before .before .before .before .before .before .before .before .before .before .before .before .before .before in
     simp (back (s .fits .minute), height-is (c .before .before .before .before .before .before .before .before .before .before .before .before)) (can-part-root (s .pre) (first-is (c .before .before .before .before .before .before .before .before .before)) (put-is (c .before .before .before .before .before)) (rooted-is (c .before .before)))
 
-same-length : tie.Need-same-length
-same-length c = search needs
-
 returns : tie.Need-returns
 returns c = grown (c .before .before .before .before .before .before .before .before .before .before .before .before .before .before .before .before .before .before .pre) (first-is (c .before .before .before .before .before .before .before .before .before .before .before)) (put-is (c .before .before .before .before .before .before .before)) (rooted-is (c .before .before .before .before)) (parted-is (c .before))
 
@@ -95,14 +75,14 @@ pub grow-spec : {M : Type 1} → statement M
 grow-spec =
     tie.close
     (tie.spec
-    place-at-requires
-    place-at-requires-2
-    nodes-of-requires
-    free-node-requires
+    (λ c κs. search needs)
+    (λ c κs. search needs)
+    (λ c κs. search needs)
+    (λ c κs. search needs)
     entry-above-requires
     append-at-requires
-    add-set-root
+    (λ c. search needs)
     set-root-requires
     part-child-requires
-    same-length
+    (λ c. search needs)
     returns)

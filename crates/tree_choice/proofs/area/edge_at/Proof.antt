@@ -23,15 +23,6 @@ run-in s = mul-in (any-in (s .fits .v)) (any-in (s .fits .minute))
 
 ruleset reads = (at-is, v-is, minute-is)
 
-wide-requires : tie.Need-wide-requires
-wide-requires c κs = search needs
-
-wide-requires-2 : tie.Need-wide-requires-2
-wide-requires-2 c κs = search needs
-
-wide-requires-3 : tie.Need-wide-requires-3
-wide-requires-3 c κs = search needs
-
 mul-result : tie.Need-mul-result
 mul-result c = let s = c .before .before .before in simp reads (fits tt (run-in s))
 
@@ -48,4 +39,4 @@ returns c =
 pub edge-at-spec : {M : Type 1} → statement M
 edge-at-spec =
     tie.close
-    (tie.spec wide-requires wide-requires-2 wide-requires-3 mul-result add-result returns)
+    (tie.spec (λ c κs. search needs) (λ c κs. search needs) (λ c κs. search needs) mul-result add-result returns)

@@ -22,26 +22,11 @@ Inv-loop node b minute n best₀ least₀ k₀ best least k =
 abbrev μ-loop : tie.MeasureT-loop
 μ-loop node b minute n best₀ least₀ k₀ best least k = n - k
 
-count-requires : tie.Need-count-requires Inv-loop μ-loop
-count-requires c κs = search needs
-
-cost-of-requires : tie.Need-cost-of-requires Inv-loop μ-loop
-cost-of-requires c κs = search needs
-
 loop-holds : tie.Need-loop-holds Inv-loop μ-loop
 loop-holds c = (search needs, c .cost-of .ensures, cheapest-one)
 
 cost-of-requires-2 : tie.Need-cost-of-requires-2 Inv-loop μ-loop
 cost-of-requires-2 c κs = omega (arith, count-fits (c .before .before .before .before .args .node .now))
-
-less-than-requires : tie.Need-less-than-requires Inv-loop μ-loop
-less-than-requires c κs = search needs
-
-add-k : tie.Need-add-k Inv-loop μ-loop
-add-k c = search needs
-
-loop-less : tie.Need-loop-less Inv-loop μ-loop
-loop-less c = search needs
 
 -- what the test of entry k tells
 told : (c : tie.After-less-than Inv-loop μ-loop) → let a = c .before .before .before .before .before .before .args in let at = c .before .before .before .loop in
@@ -69,12 +54,12 @@ best-child-spec =
     (tie.spec
     Inv-loop
     μ-loop
-    count-requires
-    cost-of-requires
+    (λ c κs. search needs)
+    (λ c κs. search needs)
     loop-holds
     cost-of-requires-2
-    less-than-requires
-    add-k
-    loop-less
+    (λ c κs. search needs)
+    (λ c. search needs)
+    (λ c. search needs)
     loop-again
     returns)

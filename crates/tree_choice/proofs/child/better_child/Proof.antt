@@ -13,15 +13,6 @@ told : (c : tie.After-less-than) → let a = c .before .before .before .args in
     Tells (c .less-than .result) (Cheaper (childCost (a .node .now) (a .k) (a .b) (a .minute)) (childCost (a .node .now) (a .j) (a .b) (a .minute)))
 told c = simp (c .before .cost-of2 .ensures, c .before .before .cost-of .ensures, back (c .before .before .before .fits .minute)) at (c .less-than .ensures)
 
-cost-of-requires : tie.Need-cost-of-requires
-cost-of-requires c κs = search needs
-
-cost-of-requires-2 : tie.Need-cost-of-requires-2
-cost-of-requires-2 c κs = search needs
-
-less-than-requires : tie.Need-less-than-requires
-less-than-requires c κs = search needs
-
 returns : tie.Need-returns
 returns c = record { one-of = inr refl; other = λ h. refl; own = λ dearer. absurd (dearer (passed (told (c .before)) (c .if1 .taken))) }
 
@@ -30,4 +21,4 @@ returns-2 c = record { one-of = inl refl; other = λ h. absurd (failed (told (c 
 
 pub better-child-spec : {M : Type 1} → statement M
 better-child-spec =
-    tie.close (tie.spec cost-of-requires cost-of-requires-2 less-than-requires returns returns-2)
+    tie.close (tie.spec (λ c κs. search needs) (λ c κs. search needs) (λ c κs. search needs) returns returns-2)

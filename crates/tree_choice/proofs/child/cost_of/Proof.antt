@@ -33,24 +33,6 @@ after-is c = simp (c .integral2 .ensures, both-is (c .before .before)) (read64 t
 
 ruleset reads = (before-is, after-is)
 
-bounds-requires : tie.Need-bounds-requires
-bounds-requires c κs = search needs
-
-of-requires : tie.Need-of-requires
-of-requires c κs = search needs
-
-of-requires-2 : tie.Need-of-requires-2
-of-requires-2 c κs = search needs
-
-with-requires : tie.Need-with-requires
-with-requires c κs = search needs
-
-integral-requires : tie.Need-integral-requires
-integral-requires c κs = search needs
-
-integral-requires-2 : tie.Need-integral-requires-2
-integral-requires-2 c κs = search needs
-
 sub-t11 : tie.Need-sub-t11
 sub-t11 c = let s = c .before .before .before .before .before .before in simp reads (fits tt (sub-in (integral-in (both s)) (integral-in (own s))))
 
@@ -64,11 +46,11 @@ pub cost-of-spec : {M : Type 1} → statement M
 cost-of-spec =
     tie.close
     (tie.spec
-    bounds-requires
-    of-requires
-    of-requires-2
-    with-requires
-    integral-requires
-    integral-requires-2
+    (λ c κs. search needs)
+    (λ c κs. search needs)
+    (λ c κs. search needs)
+    (λ c κs. search needs)
+    (λ c κs. search needs)
+    (λ c κs. search needs)
     sub-t11
     returns)

@@ -5,17 +5,11 @@ use borrow.Author.Needs.{needs}
 use Rattle.tree_nodes.proofs.afresh.entry_above.Statement.{statement}
 use Rattle.tree_nodes.proofs.afresh.entry_above.Tie as tie
 
-node-at-requires : tie.Need-node-at-requires
-node-at-requires c κs = search needs
-
 work-out-requires : tie.Need-work-out-requires
 unfolding entriesAt
 work-out-requires c κs =
     let n = c .before in
     rw (back (n .before .fits .minute), n .node-at .ensures) (n .before .pre .2, n .before .pre .3)
-
-inner-entry-requires : tie.Need-inner-entry-requires
-inner-entry-requires c κs = search needs
 
 returns : tie.Need-returns
 unfolding entryAbove entriesAt
@@ -29,4 +23,4 @@ returns c =
 
 pub entry-above-spec : {M : Type 1} → statement M
 entry-above-spec =
-    tie.close (tie.spec node-at-requires work-out-requires inner-entry-requires returns)
+    tie.close (tie.spec (λ c κs. search needs) work-out-requires (λ c κs. search needs) returns)

@@ -22,9 +22,6 @@ loop-holds c = (search needs, none-free _)
 node-at-requires : tie.Need-node-at-requires Inv-loop μ-loop
 node-at-requires c κs = omega arith
 
-count-requires : tie.Need-count-requires Inv-loop μ-loop
-count-requires c κs = search needs
-
 -- the count of the node that is tried
 count-is : (c : tie.After-count Inv-loop μ-loop) → c .count .result ≡ entryCount (nodeAt (c .before .before .before .before .args .t .now) (c .before .before .before .loop .i))
 count-is c = c .count .ensures ∙ ap entryCount (c .before .node-at .ensures)
@@ -33,12 +30,6 @@ returns : tie.Need-returns Inv-loop μ-loop
 returns c =
     let none : entryCount (nodeAt (c .before .before .before .before .before .args .t .now) (c .before .before .before .before .loop .i)) ≡ 0 = omega (arith, count-is (c .before)) in
     record { within = search needs; free = λ lt. count-free _ _ none; before = c .before .before .before .before .loop .inv .1 }
-
-add-i : tie.Need-add-i Inv-loop μ-loop
-add-i c = search needs
-
-loop-less : tie.Need-loop-less Inv-loop μ-loop
-loop-less c = search needs
 
 loop-again : tie.Need-loop-again Inv-loop μ-loop
 loop-again c =
@@ -59,9 +50,9 @@ free-node-spec =
     μ-loop
     loop-holds
     node-at-requires
-    count-requires
+    (λ c κs. search needs)
     returns
-    add-i
-    loop-less
+    (λ c. search needs)
+    (λ c. search needs)
     loop-again
     returns-2)

@@ -13,15 +13,9 @@ use Rattle.tree_nodes.specs.Laws.Kept.{ample-in}
 use Rattle.tree_nodes.specs.Inner.Shift.{Shifted}
 use Rattle.tree_nodes.specs.Laws.Shift.{dealt-from}
 use Rattle.tree_nodes.specs.Inner.PartChild.{childAt}
-use Rattle.tree_nodes.specs.Inner.Mend.{sibling-low, can-borrow, borrowed, sibling-dealt, can-refresh-sibling, can-refresh-child, child-still, mends-share}
+use Rattle.tree_nodes.specs.Laws.Mend.{sibling-low, can-borrow, borrowed, sibling-dealt, can-refresh-sibling, can-refresh-child, child-still, mends-share}
 use Rattle.tree_nodes.proofs.mend.borrow_one.Statement.{statement}
 use Rattle.tree_nodes.proofs.mend.borrow_one.Tie as tie
-
-child-at-requires : tie.Need-child-at-requires
-child-at-requires c κs = search needs
-
-child-at-requires-2 : tie.Need-child-at-requires-2
-child-at-requires-2 c κs = search needs
 
 -- ---- what the code knows at its places
 child-is : (c : tie.After-child-at) → let a = c .before .before .args in c .child-at .result ≡ childAt (entriesAt (a .t .now)) (a .i) (a .k)
@@ -78,9 +72,6 @@ refresh-requires-2 c κs =
       child-still (p .can) (child-is (c .before .before .before .before .before .before .before .before .before .before .before)) (p .b-has) (p .b-other) (sibling-is (c .before .before .before .before .before .before .before .before .before)) d (put-is (c .before .before)),
     )
 
-same-length : tie.Need-same-length
-same-length c = search needs
-
 returns : tie.Need-returns
 returns c =
     let p = c .before .before .before .before .before .before .before .before .before .before .before .before .before .before .before .pre .0 in
@@ -92,12 +83,12 @@ pub borrow-one-spec : {M : Type 1} → statement M
 borrow-one-spec =
     tie.close
     (tie.spec
-    child-at-requires
-    child-at-requires-2
+    (λ c κs. search needs)
+    (λ c κs. search needs)
     count-at-requires
     sub-last
     move-entry-requires
     refresh-requires
     refresh-requires-2
-    same-length
+    (λ c. search needs)
     returns)

@@ -12,17 +12,11 @@ use Rattle.tree_nodes.specs.Inner.EntryAfresh.{entryAbove}
 use Rattle.tree_nodes.specs.Inner.Shift.{Shifted}
 use Rattle.tree_nodes.specs.Laws.Shift.{dealt-to}
 use Rattle.tree_nodes.specs.Inner.PartChild.{childAt}
-use Rattle.tree_nodes.specs.Laws.AtNode.{length-at, removed-at}
-use Rattle.tree_laws.specs.Inner.Places.{without}
-use Rattle.tree_nodes.specs.Inner.Mend.{can-give, can-give-last, given, emptied, sibling-dealt, can-refresh-sibling, node-still, has-still, mends-join}
+use Rattle.table.specs.Laws.AtNode.{length-at, changed-at}
+use Rattle.node.specs.Inner.Change.{without}
+use Rattle.tree_nodes.specs.Laws.Mend.{can-give, can-give-last, given, emptied, sibling-dealt, can-refresh-sibling, node-still, has-still, mends-join}
 use Rattle.tree_nodes.proofs.mend.join.Statement.{statement}
 use Rattle.tree_nodes.proofs.mend.join.Tie as tie
-
-child-at-requires : tie.Need-child-at-requires
-child-at-requires c κs = search needs
-
-child-at-requires-2 : tie.Need-child-at-requires-2
-child-at-requires-2 c κs = search needs
 
 -- ---- what the code knows at its places
 child-is : (c : tie.After-child-at) → let a = c .before .before .args in c .child-at .result ≡ childAt (entriesAt (a .t .now)) (a .i) (a .k)
@@ -68,9 +62,6 @@ remove-at-requires c κs =
       omega (arith, length-at (c .before .before .refresh .last .0) (s .args .i), has-still (p .can) (child-is (c .before .before .before .before .before .before .before .before .before .before .before .before)) (p .b-has) (p .b-other) (sibling-is (c .before .before .before .before .before .before .before .before .before .before)) d (put-is (c .before .before))),
     )
 
-same-length : tie.Need-same-length
-same-length c = search needs
-
 returns : tie.Need-returns
 returns c =
     let s = c .before .before .before .before .before .before .before .before .before .before .before .before .before .before .before .before in
@@ -82,20 +73,17 @@ returns c =
     let is = child-is (c .before .before .before .before .before .before .before .before .before .before .before .before .before .before) in
     let beside = sibling-is (c .before .before .before .before .before .before .before .before .before .before .before .before) in
     let rest = emptied p is beside (three (c .before .before .before .before .before .before .before .before .before .before .before .before)) moved in
-    let last : Changed u (s .args .i) (without (s .args .k) (entriesAt u (s .args .i))) (c .before .remove-at .last .0) =
-    rw (c .before .remove-at .ensures)
-    (removed-at u (s .args .i) (node-still (p .can) is (p .b-has) (p .b-other) beside d put) (s .args .k) (has-still (p .can) is (p .b-has) (p .b-other) beside d put)) in
-    mends-join (p .can) is (p .b-has) (p .b-other) beside d put (rest .0) (rest .1) last
+    mends-join (p .can) is (p .b-has) (p .b-other) beside d put (rest .0) (rest .1) (changed-at u (s .args .i) (without (s .args .k)) (c .before .remove-at .ensures))
 
 pub join-spec : {M : Type 1} → statement M
 join-spec =
     tie.close
     (tie.spec
-    child-at-requires
-    child-at-requires-2
+    (λ c κs. search needs)
+    (λ c κs. search needs)
     move-entry-requires
     move-entry-requires-2
     refresh-requires
     remove-at-requires
-    same-length
+    (λ c. search needs)
     returns)

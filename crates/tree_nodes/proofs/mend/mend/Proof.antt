@@ -8,12 +8,10 @@ use Rattle.table.specs.Header.{entriesAt}
 use Rattle.table.specs.Laws.ScanParts.{leaf-test}
 use Rattle.tree_nodes.specs.Laws.Kept.{ample-in}
 use Rattle.tree_nodes.specs.Inner.PartChild.{childAt}
-use Rattle.tree_nodes.specs.Inner.Mend.{CanPair, child-low, sibling-low, child-in-range, can-refresh, mends-refresh}
+use Rattle.tree_nodes.specs.Inner.Mend.{CanPair}
+use Rattle.tree_nodes.specs.Laws.Mend.{child-low, sibling-low, child-in-range, can-refresh, mends-refresh}
 use Rattle.tree_nodes.proofs.mend.mend.Statement.{statement}
 use Rattle.tree_nodes.proofs.mend.mend.Tie as tie
-
-child-at-requires : tie.Need-child-at-requires
-child-at-requires c κs = search needs
 
 -- ---- what the code knows at its places
 child-is : (c : tie.After-child-at) → let a = c .before .before .args in c .child-at .result ≡ childAt (entriesAt (a .t .now)) (a .i) (a .k)
@@ -40,16 +38,10 @@ refresh-requires c κs =
     let is = child-is (c .before .before .before .before) in
     simp (back (s .fits .minute), leaf-test) (can-refresh (s .pre) is, s .pre .is-minute, child-in-range (s .pre) is)
 
-same-length : tie.Need-same-length
-same-length c = search needs
-
 returns : tie.Need-returns
 returns c =
     let s = c .before .before .before .before .before .before .before .before in
     mends-refresh (s .pre) (child-is (c .before .before .before .before .before .before)) (omega (arith, c .before .before .before .before .count-at .ensures, c .before .before .before .if1 .taken)) (simp (back (s .fits .minute), leaf-test) at (c .before .refresh .ensures))
-
-beside-requires : tie.Need-beside-requires
-beside-requires c κs = search needs
 
 child-at-requires-2 : tie.Need-child-at-requires-2
 child-at-requires-2 c κs = (ample-in (c .before .before .before .before .before .before .before .pre .ample) (c .before .before .before .before .before .before .before .args .i) (c .before .before .before .before .before .before .before .pre .node-in), pair (c .before) .b-has)
@@ -65,9 +57,6 @@ borrow-one-requires c κs =
     let s = c .before .before .before .before .before .before .before .before .before .before .before .before in
     simp (back (s .fits .minute)) (pair (c .before .before .before .before .before .before), rw (← sibling-is (c .before .before .before .before)) (omega (arith, c .before .before .count-at2 .ensures, c .before .if2 .taken)))
 
-same-length-2 : tie.Need-same-length-2
-same-length-2 c = search needs
-
 returns-2 : tie.Need-returns-2
 returns-2 c = simp (back (c .before .before .before .before .before .before .before .before .before .before .before .before .before .before .fits .minute)) at (c .before .borrow-one .ensures)
 
@@ -76,9 +65,6 @@ join-requires c κs =
     let s = c .before .before .before .before .before .before .before .before .before .before .before .before in
     simp (back (s .fits .minute)) (pair (c .before .before .before .before .before .before), rw (← sibling-is (c .before .before .before .before)) (omega (arith, c .before .before .count-at2 .ensures, c .before .if2 .left)))
 
-same-length-3 : tie.Need-same-length-3
-same-length-3 c = search needs
-
 returns-3 : tie.Need-returns-3
 returns-3 c = simp (back (c .before .before .before .before .before .before .before .before .before .before .before .before .before .before .fits .minute)) at (c .before .join .ensures)
 
@@ -86,17 +72,17 @@ pub mend-spec : {M : Type 1} → statement M
 mend-spec =
     tie.close
     (tie.spec
-    child-at-requires
+    (λ c κs. search needs)
     count-at-requires
     refresh-requires
-    same-length
+    (λ c. search needs)
     returns
-    beside-requires
+    (λ c κs. search needs)
     child-at-requires-2
     count-at-requires-2
     borrow-one-requires
-    same-length-2
+    (λ c. search needs)
     returns-2
     join-requires
-    same-length-3
+    (λ c. search needs)
     returns-3)

@@ -9,7 +9,7 @@ use Rattle.node.specs.Inner.ChangeAt.{Changed}
 use Rattle.table.specs.Header.{capacity, nodesFor, entriesAt}
 use Rattle.table.specs.SoundTree.{isLeaf}
 use Rattle.table.specs.Laws.ScanParts.{leaf-test}
-use Rattle.tree_nodes.specs.Laws.AtNode.{length-at, appended-at}
+use Rattle.table.specs.Laws.AtNode.{length-at, changed-at}
 use Rattle.tree_nodes.specs.Inner.FirstFree.{FirstFree}
 use Rattle.tree_nodes.specs.Inner.EntryAfresh.{entryAbove}
 use Rattle.tree_nodes.specs.Laws.Kept.{ample-in}
@@ -19,21 +19,12 @@ use Rattle.tree_nodes.specs.Laws.PartChild.{full-low, can-part, part-in-
 use Rattle.tree_nodes.proofs.part.part_child.Statement.{statement}
 use Rattle.tree_nodes.proofs.part.part_child.Tie as tie
 
-child-at-requires : tie.Need-child-at-requires
-child-at-requires c κs = search needs
-
-nodes-of-requires : tie.Need-nodes-of-requires
-nodes-of-requires c κs = search needs
-
-free-node-requires : tie.Need-free-node-requires
-free-node-requires c κs = search needs
-
 -- ---- what the code knows at its places
 child-is : (c : tie.After-child-at) → let a = c .before .before .args in c .child-at .result ≡ childAt (entriesAt (a .t .now)) (a .i) (a .k)
 child-is c = c .child-at .ensures
 
 first-is : (c : tie.After-free-node) → let w = c .before .before .before .before .before .args .t .now in FirstFree (entriesAt w) (nodesFor (capacity w)) (c .free-node .result)
-first-is c = rw (c .before .nodes-of .ensures) at (c .free-node .ensures)
+first-is c = rw (c .before .nodes .ensures) at (c .free-node .ensures)
 
 moved-is : (c : tie.After-move-marked) → let w = c .before .before .before .before .before .before .before .before .before .before .args .t .now in Shifted (capacity w) w (c .before .before .before .before .before .before .before .before .child-at .result) (c .before .before .before .before .before .free-node .result) (marked (c .before .before .parting .result)) (c .move-marked .last .0)
 moved-is c = c .move-marked .ensures
@@ -48,9 +39,6 @@ above-is c = simp (back (c .before .before .before .before .before .before .befo
 -- ---- the needs
 node-at-requires : tie.Need-node-at-requires
 node-at-requires c κs = ample-in (c .before .before .before .before .before .before .pre .ample) (c .before .before .before .before .child-at .result) (full-low (c .before .before .before .before .before .before .pre) (child-is (c .before .before .before .before)))
-
-parting-requires : tie.Need-parting-requires
-parting-requires c κs = search needs
 
 move-marked-requires : tie.Need-move-marked-requires
 move-marked-requires c κs = can-part (c .before .before .before .before .before .before .before .before .before .pre) (child-is (c .before .before .before .before .before .before .before)) (first-is (c .before .before .before .before)) (c .before .parting .ensures)
@@ -83,9 +71,6 @@ append-at-requires c κs =
       omega (arith, length-at u (s .args .i), node-room (s .pre) (child-is (c .before .before .before .before .before .before .before .before .before .before .before .before .before .before .before)) (first-is (c .before .before .before .before .before .before .before .before .before .before .before .before)) (c .before .before .before .before .before .before .before .before .before .parting .ensures) (moved-is (c .before .before .before .before .before .before .before)) (put-is (c .before .before .before .before))),
     )
 
-same-length : tie.Need-same-length
-same-length c = search needs
-
 returns : tie.Need-returns
 returns c =
     let s = c .before .before .before .before .before .before .before .before .before .before .before .before .before .before .before .before .before .before .before in
@@ -95,24 +80,22 @@ returns c =
     let first = first-is (c .before .before .before .before .before .before .before .before .before .before .before .before .before .before) in
     let parts = c .before .before .before .before .before .before .before .before .before .before .before .parting .ensures in
     let moved = moved-is (c .before .before .before .before .before .before .before .before .before) in
-    let appended = c .before .append-at .ensures in
     let e = c .before .before .before .entry-above .result in
-    let behind : Changed u (s .args .i) (entriesAt u (s .args .i) ++ e ∷ []) (c .before .append-at .last .0) =
-    rw (appended .0) (appended-at u (s .args .i) (node-in-table (s .pre) is first parts moved put) e (node-room (s .pre) is first parts moved put) (appended .1)) in
+    let behind : Changed u (s .args .i) (entriesAt u (s .args .i) ++ e ∷ []) (c .before .append-at .last .0) = changed-at u (s .args .i) (λ es. es ++ e ∷ []) (c .before .append-at .ensures) in
     record { full = c .before .before .before .before .before .before .before .before .before .before .before .before .before .before .before .before .before .child-at .result; node = c .before .before .before .before .before .before .before .before .before .before .before .before .before .before .free-node .result; child-is = is; child = parted-child (s .pre) is first parts moved put (rw (above-is (c .before .before .before)) at behind) }
 
 pub part-child-spec : {M : Type 1} → statement M
 part-child-spec =
     tie.close
     (tie.spec
-    child-at-requires
-    nodes-of-requires
-    free-node-requires
+    (λ c κs. search needs)
+    (λ c κs. search needs)
+    (λ c κs. search needs)
     node-at-requires
-    parting-requires
+    (λ c κs. search needs)
     move-marked-requires
     refresh-requires
     entry-above-requires
     append-at-requires
-    same-length
+    (λ c. search needs)
     returns)

@@ -14,7 +14,7 @@ use Rattle.node.specs.Laws.Made.{cell-leaf}
 use Rattle.table.specs.Header.{entriesAt}
 use Rattle.table.specs.SoundTree.{isLeaf}
 use Rattle.table.specs.Laws.ScanParts.{leaf-test}
-use Rattle.tree_nodes.specs.Laws.AtNode.{length-at, appended-at}
+use Rattle.table.specs.Laws.AtNode.{length-at, changed-at}
 use Rattle.tree_nodes.specs.Inner.EntryAfresh.{entryAbove}
 use Rattle.tree_nodes.specs.Laws.Kept.{ample-in}
 use Rattle.tree_nodes.specs.Inner.PartChild.{childAt}
@@ -28,7 +28,7 @@ use Rattle.node.proofs.change_at.append_at.Reads as append-at-reads
 use Rattle.node.proofs.made.leaf_entry.Reads as leaf-entry-reads
 use Rattle.track.proofs.meeting.cell_bounds.Reads as cell-bounds-reads
 use Rattle.tree_nodes.proofs.afresh.refresh.Reads as refresh-reads
-use Rattle.tree_nodes.proofs.at.child_at.Reads as child-at-reads
+use Rattle.table.proofs.nodes.child_at.Reads as child-at-reads
 use Rattle.tree_nodes.proofs.put.way_down.Reads as way-down-reads
 use Rattle.tree_nodes.proofs.put.+put_in.{statement}
 use Rattle.tree_nodes.proofs.put.+put_in.Tie.{close}
@@ -103,9 +103,8 @@ module _ (t : ℕ) where
       let s = c .before .before .before .before .before in
       let w = s .args .t .now in
       let can = leaf-can (c .before .before .before .before) in
-      let put = c .before .append-at .ensures in
       let changed : Changed w (s .args .i) (entriesAt w (s .args .i) ++ leafEntry (s .args .c) ∷ []) (c .before .append-at .last .0) =
-      rw (← c .before .before .leaf-entry .ensures, put .0) (appended-at w (s .args .i) (ample-in (can .ample) (s .args .i) (can .node-in)) _ (can .room) (put .1)) in
+      rw (← c .before .before .leaf-entry .ensures) (changed-at w (s .args .i) (λ es. es ++ c .before .before .leaf-entry .result ∷ []) (c .before .append-at .ensures)) in
       let e : 0 ≡ s .args .h = omega arith in
       subst (λ h. Puts w (s .args .minute) h (s .args .i) (leafEntry (s .args .c)) (c .before .append-at .last .0)) e (puts-leaf can (rw (cell-leaf (s .args .c)) (s .pre .1 .1)) changed)
 

@@ -7,16 +7,13 @@ use borrow.Author.Needs.{needs}
 use Rattle.whole.specs.Laws.Within.{back}
 use Rattle.node.specs.Entry.{entryCount}
 use Rattle.table.specs.Header.{capacity, nodesFor, entriesAt}
-use Rattle.tree_nodes.specs.Laws.AtNode.{length-at, at-most}
+use Rattle.table.specs.Laws.AtNode.{length-at, at-most}
 use Rattle.tree_nodes.specs.Laws.Kept.{ample-in}
 use Rattle.tree_nodes.specs.Inner.PartChild.{childAt, Parted}
 use Rattle.tree_nodes.specs.Laws.PartChild.{child-low}
 use Rattle.tree_nodes.specs.Laws.Way.{way-straight, can-part-child, way-parted}
 use Rattle.tree_nodes.proofs.put.way_down.Statement.{statement}
 use Rattle.tree_nodes.proofs.put.way_down.Tie as tie
-
-node-at-requires : tie.Need-node-at-requires
-node-at-requires c κs = search needs
 
 best-child-requires : tie.Need-best-child-requires
 best-child-requires c κs =
@@ -50,9 +47,6 @@ child-at-requires c κs = (ample-in (c .before .before .before .before .pre .amp
 count-at-requires : tie.Need-count-at-requires
 count-at-requires c κs = ample-in (c .before .before .before .before .before .before .pre .ample) (c .before .child-at .result) (child-in (c .before))
 
-same-length : tie.Need-same-length
-same-length c = search needs
-
 returns : tie.Need-returns
 returns c = way-straight (c .before .before .before .before .before .before .before .before .pre) (chosen (c .before .before .before .before .before)) (omega (arith, count-is (c .before), c .if1 .taken))
 
@@ -62,9 +56,6 @@ part-child-requires c κs =
     let child = childAt (entriesAt (s .args .t .now)) (s .args .i) (c .before .before .before .before .before .before .best-child .result) in
     simp (back (s .fits .minute)) (can-part-child (s .pre) (chosen (c .before .before .before .before .before .before)) (omega (arith, count-is (c .before .before), c .before .if1 .left, at-most (s .args .t .now) child)))
 
-count-at-requires-2 : tie.Need-count-at-requires-2
-count-at-requires-2 c κs = search needs
-
 -- the parted child has its place still
 stays : (c : tie.After-part-child) → c .before .before .before .before .before .before .before .best-child .result < length (entriesAt (c .part-child .last .0) (c .before .before .before .before .before .before .before .before .before .before .args .i))
 stays c = way-parted (c .before .before .before .before .before .before .before .before .before .before .pre) (chosen (c .before .before .before .before .before .before .before)) (parted-is c) (inl refl) .has
@@ -72,16 +63,10 @@ stays c = way-parted (c .before .before .before .before .before .before .before 
 sub-last : tie.Need-sub-last
 sub-last c = omega (arith, stays (c .before .before .before), c .count-at2 .ensures)
 
-node-at-requires-2 : tie.Need-node-at-requires-2
-node-at-requires-2 c κs = search needs
-
 better-child-requires : tie.Need-better-child-requires
 better-child-requires c κs =
     let most = at-most (c .before .before .before .before .before .part-child .last .0) (c .before .before .before .before .before .before .before .before .before .before .before .before .before .before .before .args .i) in
     (omega (arith, stays (c .before .before .before .before .before), most), omega (arith, c .before .before .count-at2 .ensures, most))
-
-same-length-2 : tie.Need-same-length-2
-same-length-2 c = search needs
 
 returns-2 : tie.Need-returns-2
 returns-2 c =
@@ -92,16 +77,16 @@ pub way-down-spec : {M : Type 1} → statement M
 way-down-spec =
     tie.close
     (tie.spec
-    node-at-requires
+    (λ c κs. search needs)
     best-child-requires
     child-at-requires
     count-at-requires
-    same-length
+    (λ c. search needs)
     returns
     part-child-requires
-    count-at-requires-2
+    (λ c κs. search needs)
     sub-last
-    node-at-requires-2
+    (λ c κs. search needs)
     better-child-requires
-    same-length-2
+    (λ c. search needs)
     returns-2)

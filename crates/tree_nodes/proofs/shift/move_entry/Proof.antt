@@ -1,13 +1,14 @@
 use mathlib.Core.Path.{sym, _∙_}
+use mathlib.Core.List.{[], _∷_, _++_}
 use native.Mathlib.Omega.{arith}
 use borrow.Author.Needs.{needs}
 use Prim.Native.Nat.{_<_}
-use Rattle.words.specs.Layout.{fullNode, InTable, nodeAt}
+use Rattle.words.specs.Layout.{fullNode, nodeAt}
 use Rattle.node.specs.Entry.{entryCount}
 use Rattle.node.specs.Inner.ChangeAt.{Changed}
 use Rattle.table.specs.Header.{entriesAt}
-use Rattle.tree_laws.specs.Inner.Places.{without}
-use Rattle.tree_nodes.specs.Laws.AtNode.{length-at, at-most, entry-here, removed-at, appended-at}
+use Rattle.node.specs.Inner.Change.{without}
+use Rattle.table.specs.Laws.AtNode.{length-at, at-most, entry-here, changed-at}
 use Rattle.tree_nodes.specs.Laws.Kept.{ample-in}
 use Rattle.tree_nodes.specs.Laws.Shift.{shift-one}
 use Rattle.tree_nodes.proofs.shift.move_entry.Statement.{statement}
@@ -28,7 +29,7 @@ remove-at-requires c κs =
 taken-out : (c : tie.After-remove-at) → let a = c .before .before .before .before .args in Changed (a .t .now) (a .from) (without (a .k) (entriesAt (a .t .now) (a .from))) (c .remove-at .last .0)
 taken-out c =
     let s = c .before .before .before .before in
-    rw (c .remove-at .ensures) (removed-at (s .args .t .now) (s .args .from) (ample-in (s .pre .ample) (s .args .from) (s .pre .from-in)) (s .args .k) (s .pre .has))
+    changed-at (s .args .t .now) (s .args .from) (without (s .args .k)) (c .remove-at .ensures)
 
 -- the other node is as it was
 room : (c : tie.After-remove-at) → entryCount (nodeAt (c .remove-at .last .0) (c .before .before .before .before .args .to)) < fullNode
@@ -42,20 +43,16 @@ append-at-requires c κs =
     let out = taken-out (c .before .before) in
     (rw (out .same-length) (ample-in (s .pre .ample) (s .args .to) (s .pre .to-in)), room (c .before .before))
 
-same-length : tie.Need-same-length
-same-length c = search needs
-
 returns : tie.Need-returns
 returns c =
     let s = c .before .before .before .before .before .before .before .before in
     let out = taken-out (c .before .before .before .before) in
     let v = c .before .before .before .before .remove-at .last .0 in
-    let put = c .before .append-at .ensures in
-    let fits : InTable v (s .args .to) = rw (out .same-length) (ample-in (s .pre .ample) (s .args .to) (s .pre .to-in)) in
-    shift-one (s .pre) (c .before .before .before .before .before .before .entry-at .ensures ∙ sym (entry-here (s .args .t .now) (s .args .from) (s .args .k) (s .pre .has))) out
-    (rw (put .0) (appended-at v (s .args .to) fits _ (omega (arith, room (c .before .before .before .before), length-at v (s .args .to))) (put .1)))
+    let e = c .before .before .before .before .before .before .entry-at in
+    shift-one (s .pre) (e .ensures ∙ sym (entry-here (s .args .t .now) (s .args .from) (s .args .k) (s .pre .has))) out
+    (changed-at v (s .args .to) (λ es. es ++ e .result ∷ []) (c .before .append-at .ensures))
 
 pub move-entry-spec : {M : Type 1} → statement M
 move-entry-spec =
     tie.close
-    (tie.spec entry-at-requires remove-at-requires append-at-requires same-length returns)
+    (tie.spec entry-at-requires remove-at-requires append-at-requires (λ c. search needs) returns)

@@ -16,9 +16,6 @@ abbrev μ-loop : tie.MeasureT-loop
 loop-holds : tie.Need-loop-holds Inv-loop μ-loop
 loop-holds c = (search needs, gone-none (c .pre))
 
-sub-k : tie.Need-sub-k Inv-loop μ-loop
-sub-k c = search needs
-
 array-read-if1 : tie.Need-array-read-if1 Inv-loop μ-loop
 array-read-if1 c = omega (arith, c .before .loop .inv .0)
 
@@ -33,18 +30,12 @@ behind c =
 move-entry-requires : tie.Need-move-entry-requires Inv-loop μ-loop
 move-entry-requires c κs = can-go (c .before .before .before .before .pre) _ (omega (arith, c .before .before .before .loop .inv .0)) (behind (c .before .before))
 
-loop-less : tie.Need-loop-less Inv-loop μ-loop
-loop-less c = search needs
-
 loop-again : tie.Need-loop-again Inv-loop μ-loop
 loop-again c =
     let l = c .before .before .before .before .before .loop in (
       omega (arith, l .inv .0),
       gone-go (c .before .before .before .before .before .before .pre) _ (omega (arith, l .inv .0)) (behind (c .before .before .before .before)) (c .before .before .before .if1 .taken) (c .before .move-entry .ensures),
     )
-
-loop-less-2 : tie.Need-loop-less-2 Inv-loop μ-loop
-loop-less-2 c = search needs
 
 loop-again-2 : tie.Need-loop-again-2 Inv-loop μ-loop
 loop-again-2 c =
@@ -68,12 +59,12 @@ move-marked-spec =
     Inv-loop
     μ-loop
     loop-holds
-    sub-k
+    (λ c. search needs)
     array-read-if1
     move-entry-requires
-    loop-less
+    (λ c. search needs)
     loop-again
-    loop-less-2
+    (λ c. search needs)
     loop-again-2
     same-length
     returns)

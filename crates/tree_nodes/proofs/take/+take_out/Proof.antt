@@ -1,4 +1,4 @@
-use mathlib.Core.Path.{_≡_, sym, ap, _∙_, subst}
+use mathlib.Core.Path.{_≡_, sym, subst}
 use mathlib.Core.Bool.{true}
 use mathlib.Core.List.{[], _∷_}
 use Prim.Native.Nat.{ℕ, suc, _+_, _-_, _*_, _<_}
@@ -10,24 +10,24 @@ use borrow.Fn.PlainCycle.{Measures, is, falls, and}
 use Rattle.whole.specs.Tells.{Tells}
 use Rattle.whole.specs.Laws.Tells.{passed, failed}
 use Rattle.whole.specs.Laws.Within.{back}
-use Rattle.words.specs.Layout.{fullNode, entryAt}
+use Rattle.words.specs.Layout.{fullNode}
 use Rattle.node.specs.Entry.{cellOf}
 use Rattle.table.specs.Header.{entriesAt}
-use Rattle.tree_nodes.specs.Laws.AtNode.{length-at, at-most, entry-here, removed-at}
+use Rattle.node.specs.Inner.Change.{without}
+use Rattle.table.specs.Laws.AtNode.{length-at, at-most, changed-at}
 use Rattle.tree_nodes.specs.Laws.Kept.{ample-in}
 use Rattle.tree_nodes.specs.Inner.PartChild.{childAt}
 use Rattle.tree_laws.specs.Inner.Goes.{Goes}
-use Rattle.tree_nodes.specs.Inner.Takes.{CanTake, NoneGoes, Takes, takes-end, takes-next, takes-one, leaf-stays, leaf-goes, can-take-child, child-stays, can-mend, taken-below}
+use Rattle.tree_nodes.specs.Inner.Takes.{CanTake, NoneGoes, Takes}
+use Rattle.tree_nodes.specs.Laws.Takes.{takes-end, takes-next, takes-one, leaf-stays, leaf-goes, can-take-child, child-stays, can-mend, taken-below}
 use Rattle.tree_nodes.proofs.take.take_out.Reads as reads
 use Rattle.tree_nodes.proofs.take.take_out.Kinds as kinds
 use Rattle.tree_nodes.proofs.take.+take_out.Lts-take_out as lts
 use Rattle.node.proofs.change_at.remove_at.Reads as remove-at-reads
-use Rattle.node.proofs.entry.cell.Reads as cell-reads
-use Rattle.table.proofs.scan.node_at.Reads as node-at-reads
-use Rattle.tree_nodes.proofs.at.child_at.Reads as child-at-reads
-use Rattle.tree_nodes.proofs.at.count_at.Reads as count-at-reads
+use Rattle.table.proofs.nodes.child_at.Reads as child-at-reads
+use Rattle.table.proofs.nodes.count_at.Reads as count-at-reads
 use Rattle.tree_nodes.proofs.mend.mend.Reads as mend-reads
-use Rattle.tree_nodes.proofs.take.goes.Reads as goes-reads
+use Rattle.tree_nodes.proofs.take.goes_at.Reads as goes-at-reads
 use Rattle.tree_nodes.proofs.take.+take_out.{statement}
 use Rattle.tree_nodes.proofs.take.+take_out.Tie.{close}
 
@@ -45,12 +45,8 @@ abbrev calls : ℕ → lts.Claims
 calls t = (
   count-at-reads.Asked,
   count-at-reads.Learnt,
-  node-at-reads.Asked,
-  node-at-reads.Learnt,
-  cell-reads.Asked,
-  cell-reads.Learnt,
-  goes-reads.Asked,
-  goes-reads.Learnt,
+  goes-at-reads.Asked,
+  goes-at-reads.Learnt,
   remove-at-reads.Asked,
   remove-at-reads.Learnt,
   below t,
@@ -78,14 +74,9 @@ module _ (t : ℕ) where
   inner-can : (c : lts.Else2 (calls t) (entered t) reads.Post) → let a = c .before .before .before .before .args in CanTake (a .t .now) (a .minute) (suc (a .h - 1)) (a .i)
   inner-can c = let a = c .before .before .before .before .args in subst (λ h. CanTake (a .t .now) (a .minute) h (a .i)) (one-level c) (c .before .before .before .before .pre .1)
 
-  told : (c : lts.After-goes (calls t) (entered t) reads.Post) → let a = c .before .before .before .before .before .before .before .before .args in
-      Tells (c .goes .result) (Goes (a .minute) (a .id) (cellOf (getD (entriesAt (a .t .now) (a .i)) (a .k) [])))
-  told c =
-      let s = c .before .before .before .before .before .before .before .before in
-      let a = s .args in
-      let cell-is : c .before .cell .result ≡ cellOf (getD (entriesAt (a .t .now) (a .i)) (a .k) []) =
-      c .before .cell .ensures ∙ ap (λ n. cellOf (entryAt n (a .k))) (c .before .before .node-at .ensures) ∙ ap cellOf (sym (entry-here (a .t .now) (a .i) (a .k) (low (c .before .before .before .before .before)))) in
-      simp (back (s .fits .minute), back (s .fits .id), cell-is) at (c .goes .ensures)
+  told : (c : lts.After-goes-at (calls t) (entered t) reads.Post) → let a = c .before .before .before .before .before .before .args in
+      Tells (c .goes-at .result) (Goes (a .minute) (a .id) (cellOf (getD (entriesAt (a .t .now) (a .i)) (a .k) [])))
+  told c = let s = c .before .before .before .before .before .before in simp (back (s .fits .minute), back (s .fits .id)) at (c .goes-at .ensures)
 
   child-is : (c : lts.After-child-at (calls t) (entered t) reads.Post) → let a = c .before .before .before .before .before .before .args in c .child-at .result ≡ childAt (entriesAt (a .t .now)) (a .i) (a .k)
   child-is c = c .child-at .ensures
@@ -107,47 +98,41 @@ module _ (t : ℕ) where
   returns : lts.Need-returns (calls t) (entered t) reads.Post
   returns c = takes-end (omega (arith, c .if1 .taken, c .before .count-at .ensures))
 
-  node-at-requires : lts.Need-node-at-requires (calls t) (entered t) reads.Post
-  node-at-requires c κs = ample-in (c .before .before .before .before .before .pre .1 .ample) (c .before .before .before .before .before .args .i) (c .before .before .before .before .before .pre .1 .node-in)
-
-  cell-requires : lts.Need-cell-requires (calls t) (entered t) reads.Post
-  cell-requires c κs = in-node (c .before .before .before)
-
-  goes-requires : lts.Need-goes-requires (calls t) (entered t) reads.Post
-  goes-requires c κs = search needs
+  goes-at-requires : lts.Need-goes-at-requires (calls t) (entered t) reads.Post
+  goes-at-requires c κs = (ample-in (c .before .before .before .before .before .pre .1 .ample) (c .before .before .before .before .before .args .i) (c .before .before .before .before .before .pre .1 .node-in), low (c .before .before))
 
   remove-at-requires : lts.Need-remove-at-requires (calls t) (entered t) reads.Post
   remove-at-requires c κs =
-      let s = c .before .before .before .before .before .before .before .before .before .before in
-      (ample-in (s .pre .1 .ample) (s .args .i) (s .pre .1 .node-in), omega (arith, low (c .before .before .before .before .before .before .before), length-at (s .args .t .now) (s .args .i)))
+      let s = c .before .before .before .before .before .before .before .before in
+      (ample-in (s .pre .1 .ample) (s .args .i) (s .pre .1 .node-in), omega (arith, low (c .before .before .before .before .before), length-at (s .args .t .now) (s .args .i)))
 
   same-length-2 : lts.Need-same-length-2 (calls t) (entered t) reads.Post
   same-length-2 c = search needs
 
   returns-2 : lts.Need-returns-2 (calls t) (entered t) reads.Post
   returns-2 c =
-      let s = c .before .before .before .before .before .before .before .before .before .before .before .before in
+      let s = c .before .before .before .before .before .before .before .before .before .before in
       let a = s .args in
       let h : 0 ≡ a .h = omega arith in
       subst (λ n. Takes (a .t .now) (a .minute) (a .id) n (a .i) (a .k) _ (c .before .remove-at .last .0)) h
-      (takes-one (leaf-goes (leaf-can (c .before .before .before .before .before .before .before .before)) (low (c .before .before .before .before .before .before .before .before .before)) (passed (told (c .before .before .before .before)) (c .before .before .before .if3 .taken))
-      (rw (c .before .remove-at .ensures) (removed-at (a .t .now) (a .i) (ample-in (s .pre .1 .ample) (a .i) (s .pre .1 .node-in)) (a .k) (low (c .before .before .before .before .before .before .before .before .before))))))
+      (takes-one (leaf-goes (leaf-can (c .before .before .before .before .before .before)) (low (c .before .before .before .before .before .before .before)) (passed (told (c .before .before .before .before)) (c .before .before .before .if3 .taken))
+      (changed-at (a .t .now) (a .i) (without (a .k)) (c .before .remove-at .ensures))))
 
   add-take-out : lts.Need-add-take-out (calls t) (entered t) reads.Post
-  add-take-out c = omega (arith, in-node (c .before .before .before .before .before .before .before))
+  add-take-out c = omega (arith, in-node (c .before .before .before .before .before))
 
   take-out-requires : lts.Need-take-out-requires (calls t) (entered t) reads.Post
-  take-out-requires c κs = (omega (arith, in-node (c .before .before .before .before .before .before .before), c .before .before .before .before .before .before .before .before .before .before .pre .0), simp (back (c .before .before .before .before .before .before .before .before .before .before .fits .minute)) (c .before .before .before .before .before .before .before .before .before .before .pre .1))
+  take-out-requires c κs = (omega (arith, in-node (c .before .before .before .before .before), c .before .before .before .before .before .before .before .before .pre .0), simp (back (c .before .before .before .before .before .before .before .before .fits .minute)) (c .before .before .before .before .before .before .before .before .pre .1))
 
   same-length-3 : lts.Need-same-length-3 (calls t) (entered t) reads.Post
   same-length-3 c = search needs
 
   returns-3 : lts.Need-returns-3 (calls t) (entered t) reads.Post
   returns-3 c =
-      let s = c .before .before .before .before .before .before .before .before .before .before .before .before in
+      let s = c .before .before .before .before .before .before .before .before .before .before in
       let a = s .args in
       let h : 0 ≡ a .h = omega arith in
-      takes-next (low (c .before .before .before .before .before .before .before .before .before))
+      takes-next (low (c .before .before .before .before .before .before .before))
       (subst (λ n. NoneGoes (entriesAt (a .t .now)) (a .minute) (a .id) n (getD (entriesAt (a .t .now) (a .i)) (a .k) [] ∷ [])) h
       (leaf-stays (a .t .now) (a .i) (a .k) (failed (told (c .before .before .before .before)) (c .before .before .before .if3 .left))))
       (simp (back (s .fits .minute), back (s .fits .id)) at (c .before .take-out .ensures))
@@ -201,9 +186,7 @@ pub +take-out-spec : {M : Type 1} → statement M
     (count-at-requires t)
     (same-length t)
     (returns t)
-    (node-at-requires t)
-    (cell-requires t)
-    (goes-requires t)
+    (goes-at-requires t)
     (remove-at-requires t)
     (same-length-2 t)
     (returns-2 t)

@@ -1,13 +1,11 @@
 use mathlib.Core.Path.{_≡_, refl}
 use mathlib.Core.Logic.{inl, inr}
-use lib.IntN.{ℤ}
 use lib.Signed.{_≤ℤ_, clashℤ}
 use mir.Syntax.{w32}
 use mir.Val.{toZ, ofZ}
 use borrow.Author.Needs.{needs}
-use Rattle.whole.specs.Laws.Within.{back, read32}
+use Rattle.whole.specs.Laws.Within.{back, word-back, read32}
 use Rattle.whole.specs.Laws.Order.{ltZ-true, ltZ-false}
-use Rattle.whole.specs.Tells.{Tells}
 use Rattle.whole.specs.Laws.Tells.{passed-not, failed-not}
 use Rattle.track.specs.Numbers.{kept}
 use Rattle.track.specs.Laws.Numbers.{kept-in}
@@ -20,47 +18,38 @@ module _ (s : tie.Start) where
   r-clock : toZ w32 (ofZ w32 (s .args .clock)) ≡ s .args .clock
   r-clock = back (s .fits .clock)
 
-  r-id : toZ w32 (ofZ w32 (s .args .id)) ≡ s .args .id
-  r-id = back (s .fits .id)
+  r-id : toZ w32 (ofZ w32 (s .args .r .id)) ≡ s .args .r .id
+  r-id = word-back (s .args .r .id) (s .good .1 .0 .1 .1 .0 .1)
 
-  r-x : toZ w32 (ofZ w32 (s .args .x)) ≡ s .args .x
-  r-x = back (s .fits .x)
+  r-x : toZ w32 (ofZ w32 (s .args .r .x)) ≡ s .args .r .x
+  r-x = word-back (s .args .r .x) (s .good .1 .0 .1 .1 .1 .0 .1)
 
-  r-y : toZ w32 (ofZ w32 (s .args .y)) ≡ s .args .y
-  r-y = back (s .fits .y)
+  r-y : toZ w32 (ofZ w32 (s .args .r .y)) ≡ s .args .r .y
+  r-y = word-back (s .args .r .y) (s .good .1 .0 .1 .1 .1 .1 .0 .1)
 
-  r-vx : toZ w32 (ofZ w32 (s .args .vx)) ≡ s .args .vx
-  r-vx = back (s .fits .vx)
+  r-vx : toZ w32 (ofZ w32 (s .args .r .vx)) ≡ s .args .r .vx
+  r-vx = word-back (s .args .r .vx) (s .good .1 .0 .1 .1 .1 .1 .1 .0 .1)
 
-  r-vy : toZ w32 (ofZ w32 (s .args .vy)) ≡ s .args .vy
-  r-vy = back (s .fits .vy)
+  r-vy : toZ w32 (ofZ w32 (s .args .r .vy)) ≡ s .args .r .vy
+  r-vy = word-back (s .args .r .vy) (s .good .1 .0 .1 .1 .1 .1 .1 .1 .0 .1)
 
-  r-minute : toZ w32 (ofZ w32 (s .args .minute)) ≡ s .args .minute
-  r-minute = back (s .fits .minute)
+  r-minute : toZ w32 (ofZ w32 (s .args .r .minute)) ≡ s .args .r .minute
+  r-minute = word-back (s .args .r .minute) (s .good .1 .0 .1 .1 .1 .1 .1 .1 .1 .0 .1)
 
-  r-expiry : toZ w32 (ofZ w32 (s .args .expiry)) ≡ s .args .expiry
-  r-expiry = back (s .fits .expiry)
+  r-expiry : toZ w32 (ofZ w32 (s .args .r .expiry)) ≡ s .args .r .expiry
+  r-expiry = word-back (s .args .r .expiry) (s .good .1 .0 .1 .1 .1 .1 .1 .1 .1 .1 .0 .1)
 
 ruleset reads = (r-clock, r-id, r-x, r-y, r-vx, r-vy, r-minute, r-expiry)
 
 -- what each test told
-abbrev InRange : tie.Start → Type 0
-InRange s = ReportInRange (s .args .id) (s .args .x) (s .args .y) (s .args .vx) (s .args .vy) (s .args .minute) (s .args .expiry)
+in-range : (c : tie.Else1) → ReportInRange (c .before .before .before .before .args .r)
+in-range c = passed-not (c .before .report-in-range .ensures) (c .if1 .left)
 
-told : (c : tie.After-report-in-range) → Tells (c .report-in-range .result) (InRange (c .before))
-told c = simp reads at (c .report-in-range .ensures)
-
-in-range : (c : tie.Else1) → InRange (c .before .before)
-in-range c = passed-not (told (c .before)) (c .if1 .left)
-
-in-time : (c : tie.Else2) → c .before .before .before .args .clock ≤ℤ c .before .before .before .args .minute
+in-time : (c : tie.Else2) → c .before .before .before .before .before .args .clock ≤ℤ c .before .before .before .before .before .args .r .minute
 in-time c = ltZ-false (simp reads at (c .if2 .left))
 
-report-in-range-requires : tie.Need-report-in-range-requires
-report-in-range-requires c κs = search needs
-
 returns : tie.Need-returns
-returns c = record { refusal = inl (failed-not (told (c .before)) (c .if1 .taken), refl); cell = not-zero 3 }
+returns c = record { refusal = inl (failed-not (c .before .report-in-range .ensures) (c .if1 .taken), refl); cell = not-zero 3 }
 
 returns-2 : tie.Need-returns-2
 returns-2 c = record {
@@ -75,39 +64,33 @@ returns-3 c = record {
 }
 
 kept-requires : tie.Need-kept-requires
-kept-requires c κs = let m = in-range (c .before .before) in simp reads (m .x-in, m .vx-in, m .minute-in)
+kept-requires c κs = let m = in-range (c .before .before .before .before) in simp reads (m .x-in, m .vx-in, m .minute-in)
 
 kept-requires-2 : tie.Need-kept-requires-2
-kept-requires-2 c κs = let m = in-range (c .before .before .before) in simp reads (m .y-in, m .vy-in, m .minute-in)
+kept-requires-2 c κs = let m = in-range (c .before .before .before .before .before .before .before) in simp reads (m .y-in, m .vy-in, m .minute-in)
 
 -- what was kept
-kept-x : (c : tie.After-kept) → let a = c .before .before .before .before .before .args in toZ w32 (ofZ w32 (c .kept .result)) ≡ kept (a .x) (a .vx) (a .minute)
+kept-x : (c : tie.After-kept) → let r = c .before .before .before .before .before .before .before .before .before .args .r in toZ w32 (ofZ w32 (c .kept .result)) ≡ kept (r .x) (r .vx) (r .minute)
 kept-x c =
-    let m = in-range (c .before .before .before) in
+    let m = in-range (c .before .before .before .before .before) in
     simp (c .kept .ensures, reads) (read32 tt (kept-in (m .x-in) (m .vx-in) (m .minute-in)))
 
-kept-y : (c : tie.After-kept2) → let a = c .before .before .before .before .before .before .args in toZ w32 (ofZ w32 (c .kept2 .result)) ≡ kept (a .y) (a .vy) (a .minute)
+kept-y : (c : tie.After-kept2) → let r = c .before .before .before .before .before .before .before .before .before .before .before .before .args .r in toZ w32 (ofZ w32 (c .kept2 .result)) ≡ kept (r .y) (r .vy) (r .minute)
 kept-y c =
-    let m = in-range (c .before .before .before .before) in
+    let m = in-range (c .before .before .before .before .before .before .before .before) in
     simp (c .kept2 .ensures, reads) (read32 tt (kept-in (m .y-in) (m .vy-in) (m .minute-in)))
 
 returns-4 : tie.Need-returns-4
 returns-4 c =
-    let ordered = ltZ-false (simp reads at (c .before .before .if3 .left)) in
-    simp (reads, kept-x (c .before), kept-y c)
+    let y = c .before in
+    let x = y .before .before .before in
+    let last = x .before .before .before in
+    let ordered = ltZ-false (simp reads at (last .if3 .left)) in
+    simp (reads, kept-x x, kept-y y)
     (record {
-      refusal = inr (λ f. f (in-range (c .before .before .before .before)), inr (λ e. clashℤ e (in-time (c .before .before .before)), inr (λ e. clashℤ e ordered, refl)));
+      refusal = inr (λ f. f (in-range (last .before .before)), inr (λ e. clashℤ e (in-time (last .before)), inr (λ e. clashℤ e ordered, refl)));
       cell = λ e. refl;
     })
 
 pub reported-spec : {M : Type 1} → statement M
-reported-spec =
-    tie.close
-    (tie.spec
-    report-in-range-requires
-    returns
-    returns-2
-    returns-3
-    kept-requires
-    kept-requires-2
-    returns-4)
+reported-spec = tie.close (tie.spec (λ c κs. search needs) returns returns-2 returns-3 kept-requires kept-requires-2 returns-4)

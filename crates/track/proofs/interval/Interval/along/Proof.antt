@@ -72,22 +72,10 @@ is-cut c = simp (is-under (c .before .before .before .before .before .before)) a
 is-turned : (c : tie.After-turned) → c .turned .result ≡ turnedLine (over (c .before .before .before .before .before .before .before .before .before .before .before .before))
 is-turned c = simp (is-over (c .before .before)) at (c .turned .ensures)
 
-array-copy-out-gap : tie.Need-array-copy-out-gap
-array-copy-out-gap c = search needs
-
-array-copy-out-gap-2 : tie.Need-array-copy-out-gap-2
-array-copy-out-gap-2 c = search needs
-
 gap-requires : tie.Need-gap-requires
 gap-requires c κs =
     let s = c .before .before .before .before in
     simp reads (s .pre .1 .high-in, s .pre .1 .high2-in, s .pre .2 .low-in, s .pre .2 .low-velocity-in, s .pre .3, s .pre .4)
-
-array-copy-out-gap-3 : tie.Need-array-copy-out-gap-3
-array-copy-out-gap-3 c = search needs
-
-array-copy-out-gap-4 : tie.Need-array-copy-out-gap-4
-array-copy-out-gap-4 c = search needs
 
 gap-requires-2 : tie.Need-gap-requires-2
 gap-requires-2 c κs =
@@ -114,11 +102,11 @@ pub along-spec : {M : Type 1} → statement M
 along-spec =
     tie.close
     (tie.spec
-    array-copy-out-gap
-    array-copy-out-gap-2
+    (λ c. search needs)
+    (λ c. search needs)
     gap-requires
-    array-copy-out-gap-3
-    array-copy-out-gap-4
+    (λ c. search needs)
+    (λ c. search needs)
     gap-requires-2
     cut-requires
     turned-requires

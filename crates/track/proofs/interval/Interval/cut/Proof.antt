@@ -82,9 +82,6 @@ add-if2 c = let s = c .before .before .before .before .before .before .before in
 sub-from : tie.Need-sub-from
 sub-from c = let s = c .before .before .before .before .before .before .before .before in simp reads (fits tt (sub-in (lit-in 0 {bound = 0} tt) (s .pre .1 .a-in)))
 
-from-requires : tie.Need-from-requires
-from-requires c κs = search needs
-
 mul-if4 : tie.Need-mul-if4
 mul-if4 c = simp reads (fits tt (a·hid (c .before .before .before .before .before .before)))
 
@@ -96,9 +93,6 @@ add-if4 c = let s = c .before .before .before .before .before .before .before .b
 
 sub-until : tie.Need-sub-until
 sub-until c = let s = c .before .before .before .before .before .before .before .before .before in simp reads (fits tt (sub-in (lit-in 0 {bound = 0} tt) (s .pre .1 .b-in)))
-
-until-requires : tie.Need-until-requires
-until-requires c κs = search needs
 
 -- which way b goes
 up : (c : tie.Then1) → ltZ (pos 0) (c .before .before .before .args .line .b) ≡ true
@@ -146,12 +140,12 @@ cut-spec =
     mul-if2-2
     add-if2
     sub-from
-    from-requires
+    (λ c κs. search needs)
     mul-if4
     mul-if4-2
     add-if4
     sub-until
-    until-requires
+    (λ c κs. search needs)
     returns
     returns-2
     returns-3

@@ -54,9 +54,6 @@ mul-if1 c = simp reads (fits tt (lo·hid (c .before .before)))
 mul-if1-2 : tie.Need-mul-if1-2
 mul-if1-2 c = simp reads (fits tt (hi·lod (c .before .before .before .before)))
 
-wide-requires : tie.Need-wide-requires
-wide-requires c κs = search needs
-
 mul-result : tie.Need-mul-result
 mul-result c = simp reads (fits tt (end·lod (c .before .before .before .before .before .before .before .before)))
 
@@ -67,4 +64,4 @@ returns-2 : tie.Need-returns-2
 returns-2 c = lives-never _ _ (simp reads at (c .if1 .left))
 
 pub lives-spec : {M : Type 1} → statement M
-lives-spec = tie.close (tie.spec mul-if1 mul-if1-2 wide-requires mul-result returns returns-2)
+lives-spec = tie.close (tie.spec mul-if1 mul-if1-2 (λ c κs. search needs) mul-result returns returns-2)

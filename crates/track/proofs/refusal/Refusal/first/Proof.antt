@@ -17,12 +17,6 @@ its-is c = word-back (c .number2 .result) (c .number2 .ok) ∙ c .number2 .ensur
 
 ruleset reads = (mine-is, its-is)
 
-number-requires : tie.Need-number-requires
-number-requires c κs = search needs
-
-number-requires-2 : tie.Need-number-requires-2
-number-requires-2 c κs = search needs
-
 returns : tie.Need-returns
 returns c =
     let a = c .before .before .before .args in
@@ -34,4 +28,4 @@ returns-2 c =
     mine-is (c .before .before) ∙ ap pos (sym (first-is-first _ (number (a .other)) (refused-not-zero (a .self)) (simp reads at (c .if1 .left))))
 
 pub first-spec : {M : Type 1} → statement M
-first-spec = tie.close (tie.spec number-requires number-requires-2 returns returns-2)
+first-spec = tie.close (tie.spec (λ c κs. search needs) (λ c κs. search needs) returns returns-2)

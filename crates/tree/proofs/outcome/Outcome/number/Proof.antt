@@ -6,15 +6,6 @@ use borrow.Author.Needs.{needs}
 use Rattle.tree.proofs.outcome.Outcome.number.Statement.{statement}
 use Rattle.tree.proofs.outcome.Outcome.number.Tie as tie
 
-enum-told : tie.Need-enum-told
-enum-told c = search needs
-
-enum-known-self : tie.Need-enum-known-self
-enum-known-self c = search needs
-
-number-requires : tie.Need-number-requires
-number-requires c κs = search needs
-
 returns : tie.Need-returns
 returns c = ap (λ o. pos (outcomeNumber o)) (sym (c .enum-told .given .1))
 
@@ -22,4 +13,4 @@ returns-2 : tie.Need-returns-2
 returns-2 c = word-back (c .number .result) (c .number .ok) ∙ c .number .ensures ∙ ap (λ o. pos (outcomeNumber o)) (sym (c .before .before .self .given .1))
 
 pub number-spec : {M : Type 1} → statement M
-number-spec = tie.close (tie.spec enum-told enum-known-self number-requires returns returns-2)
+number-spec = tie.close (tie.spec (λ c. search needs) (λ c. search needs) (λ c κs. search needs) returns returns-2)

@@ -114,32 +114,11 @@ module _ (c : tie.After-growth2) where
 
 ruleset reads = (r-a, r-b, r-e, r-d, r-ae, r-ad, r-be, r-bd, r-sum, r-start, r-first, r-second, r-two, r-all)
 
-width-requires : tie.Need-width-requires
-width-requires c κs = search needs
-
-growth-requires : tie.Need-growth-requires
-growth-requires c κs = search needs
-
-width-requires-2 : tie.Need-width-requires-2
-width-requires-2 c κs = search needs
-
-growth-requires-2 : tie.Need-growth-requires-2
-growth-requires-2 c κs = search needs
-
-mul-start : tie.Need-mul-start
-mul-start c = search needs
-
 mul-start-2 : tie.Need-mul-start-2
 mul-start-2 c = simp reads (fits tt (ae-in c))
 
 mul-start-3 : tie.Need-mul-start-3
 mul-start-3 c = simp reads (fits tt (start-in c))
-
-mul-first : tie.Need-mul-first
-mul-first c = search needs
-
-mul-first-2 : tie.Need-mul-first-2
-mul-first-2 c = search needs
 
 mul-first-3 : tie.Need-mul-first-3
 mul-first-3 c = simp reads (fits tt (ad-in c))
@@ -152,15 +131,6 @@ add-first c = simp reads (fits tt (sum-in c))
 
 mul-first-5 : tie.Need-mul-first-5
 mul-first-5 c = simp reads (fits tt (first-in c))
-
-mul-second : tie.Need-mul-second
-mul-second c = search needs
-
-mul-second-2 : tie.Need-mul-second-2
-mul-second-2 c = search needs
-
-mul-second-3 : tie.Need-mul-second-3
-mul-second-3 c = search needs
 
 mul-second-4 : tie.Need-mul-second-4
 mul-second-4 c = simp reads (fits tt (bd-in c))
@@ -181,22 +151,22 @@ pub integral-spec : {M : Type 1} → statement M
 integral-spec =
     tie.close
     (tie.spec
-    width-requires
-    growth-requires
-    width-requires-2
-    growth-requires-2
-    mul-start
+    (λ c κs. search needs)
+    (λ c κs. search needs)
+    (λ c κs. search needs)
+    (λ c κs. search needs)
+    (λ c. search needs)
     mul-start-2
     mul-start-3
-    mul-first
-    mul-first-2
+    (λ c. search needs)
+    (λ c. search needs)
     mul-first-3
     mul-first-4
     add-first
     mul-first-5
-    mul-second
-    mul-second-2
-    mul-second-3
+    (λ c. search needs)
+    (λ c. search needs)
+    (λ c. search needs)
     mul-second-4
     mul-second-5
     add-result

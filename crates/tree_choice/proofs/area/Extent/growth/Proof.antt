@@ -4,9 +4,6 @@ use Rattle.tree_choice.proofs.Held.{long-back}
 use Rattle.tree_choice.proofs.area.Extent.growth.Statement.{statement}
 use Rattle.tree_choice.proofs.area.Extent.growth.Tie as tie
 
-apart-requires : tie.Need-apart-requires
-apart-requires c κs = search needs
-
 returns : tie.Need-returns
 returns c =
     let s = c .before .before .before in
@@ -14,4 +11,4 @@ returns c =
     ∙ simp (long-back (s .args .self .slowest) (s .good .0 .1 .1 .1 .1 .0 .1), long-back (s .args .self .fastest) (s .good .0 .1 .1 .1 .1 .1 .0 .1)) at (c .apart .ensures)
 
 pub growth-spec : {M : Type 1} → statement M
-growth-spec = tie.close (tie.spec apart-requires returns)
+growth-spec = tie.close (tie.spec (λ c κs. search needs) returns)

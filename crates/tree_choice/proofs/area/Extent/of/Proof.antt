@@ -31,36 +31,6 @@ fastest-is c =
     long-back (c .wide2 .result) (c .wide2 .ok)
     ∙ simp (read-at w32 (c .before .before .before .before .before .before .before .before .before .before .args .t1) 3 (c .before .wide-arg2 .given)) at (c .wide2 .ensures)
 
-array-copy-out-edge-at : tie.Need-array-copy-out-edge-at
-array-copy-out-edge-at c = search needs
-
-array-copy-out-edge-at-2 : tie.Need-array-copy-out-edge-at-2
-array-copy-out-edge-at-2 c = search needs
-
-edge-at-requires : tie.Need-edge-at-requires
-edge-at-requires c κs = search needs
-
-array-copy-out-edge-at-3 : tie.Need-array-copy-out-edge-at-3
-array-copy-out-edge-at-3 c = search needs
-
-array-copy-out-edge-at-4 : tie.Need-array-copy-out-edge-at-4
-array-copy-out-edge-at-4 c = search needs
-
-edge-at-requires-2 : tie.Need-edge-at-requires-2
-edge-at-requires-2 c κs = search needs
-
-array-copy-out-wide : tie.Need-array-copy-out-wide
-array-copy-out-wide c = search needs
-
-wide-requires : tie.Need-wide-requires
-wide-requires c κs = search needs
-
-array-copy-out-wide-2 : tie.Need-array-copy-out-wide-2
-array-copy-out-wide-2 c = search needs
-
-wide-requires-2 : tie.Need-wide-requires-2
-wide-requires-2 c κs = search needs
-
 returns : tie.Need-returns
 returns c = simp (low-is, high-is, slowest-is, fastest-is)
 
@@ -68,14 +38,14 @@ pub of-spec : {M : Type 1} → statement M
 of-spec =
     tie.close
     (tie.spec
-    array-copy-out-edge-at
-    array-copy-out-edge-at-2
-    edge-at-requires
-    array-copy-out-edge-at-3
-    array-copy-out-edge-at-4
-    edge-at-requires-2
-    array-copy-out-wide
-    wide-requires
-    array-copy-out-wide-2
-    wide-requires-2
+    (λ c. search needs)
+    (λ c. search needs)
+    (λ c κs. search needs)
+    (λ c. search needs)
+    (λ c. search needs)
+    (λ c κs. search needs)
+    (λ c. search needs)
+    (λ c κs. search needs)
+    (λ c. search needs)
+    (λ c κs. search needs)
     returns)

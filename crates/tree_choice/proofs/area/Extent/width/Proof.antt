@@ -16,9 +16,6 @@ apart-is c =
     long-back (c .apart .result) (c .apart .ok)
     ∙ simp (long-back (s .args .self .low) (s .good .0 .1 .1 .0 .1), long-back (s .args .self .high) (s .good .0 .1 .1 .1 .0 .1)) at (c .apart .ensures)
 
-apart-requires : tie.Need-apart-requires
-apart-requires c κs = search needs
-
 add-result : tie.Need-add-result
 add-result c = simp apart-is (fits tt (width-in (c .before .before .before .args .self)))
 
@@ -26,4 +23,4 @@ returns : tie.Need-returns
 returns c = simp (apart-is, read64 tt (width-in (c .before .before .before .args .self)))
 
 pub width-spec : {M : Type 1} → statement M
-width-spec = tie.close (tie.spec apart-requires add-result returns)
+width-spec = tie.close (tie.spec (λ c κs. search needs) add-result returns)

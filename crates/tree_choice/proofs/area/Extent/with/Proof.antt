@@ -31,22 +31,10 @@ fastest-is c =
     long-back (c .greater2 .result) (c .greater2 .ok)
     ∙ simp (long-back (s .args .self .fastest) (s .good .0 .1 .1 .1 .1 .1 .0 .1), long-back (s .args .other .fastest) (s .good .1 .0 .1 .1 .1 .1 .1 .0 .1)) at (c .greater2 .ensures)
 
-lesser-requires : tie.Need-lesser-requires
-lesser-requires c κs = search needs
-
-greater-requires : tie.Need-greater-requires
-greater-requires c κs = search needs
-
-lesser-requires-2 : tie.Need-lesser-requires-2
-lesser-requires-2 c κs = search needs
-
-greater-requires-2 : tie.Need-greater-requires-2
-greater-requires-2 c κs = search needs
-
 returns : tie.Need-returns
 returns c = simp (low-is, high-is, slowest-is, fastest-is)
 
 pub with-spec : {M : Type 1} → statement M
 with-spec =
     tie.close
-    (tie.spec lesser-requires greater-requires lesser-requires-2 greater-requires-2 returns)
+    (tie.spec (λ c κs. search needs) (λ c κs. search needs) (λ c κs. search needs) (λ c κs. search needs) returns)

@@ -1,0 +1,3 @@
+pub mod DigitRuns
+pub mod NumberRead
+pub mod PutBytes

@@ -1,0 +1,6 @@
+pub mod DigitRuns
+pub mod Spells
+pub mod NumberRead
+pub mod NumberExamples
+pub mod Decimal
+pub mod PutBytes

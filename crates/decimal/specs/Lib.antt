@@ -1,0 +1,4 @@
+pub mod Spells
+pub mod Decimal
+pub mod Inner
+pub mod Laws

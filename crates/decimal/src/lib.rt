@@ -1,0 +1,3 @@
+// A number in bytes, decimal: read from a line, spelt into a buffer.
+pub mod reading;
+pub mod spelling;
