@@ -1,4 +1,4 @@
--- Laws of `ChangeCalls`.
+-- A report and a drop have one number only.
 use mathlib.Core.Path.{_≡_, sym, ap, _∙_}
 use mathlib.Core.List.{List}
 use lib.IntN.{ℤ, pos}

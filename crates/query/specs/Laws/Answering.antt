@@ -1,4 +1,4 @@
--- Laws of `Answering`.
+-- Each way through the answer to a query, and the reasons of the judging and of the listing put together.
 use mathlib.Core.Path.{_≡_, refl, sym, _∙_}
 use mathlib.Core.Logic.{inl, inr}
 use mathlib.Core.List.{List, _∷_, _++_, map}

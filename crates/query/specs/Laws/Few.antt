@@ -1,4 +1,4 @@
--- Laws of `Few`.
+-- The counts of any answer fit a word: no more hits than the capacity, no more nodes than the table has.
 use mathlib.Core.Path.{_≡_, refl, subst}
 use mathlib.Core.Logic.{inl, inr}
 use mathlib.Core.List.{List, map, Memᴰ·map}

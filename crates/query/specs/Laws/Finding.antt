@@ -1,4 +1,4 @@
--- Laws of `Finding`.
+-- All that is found meets and is there, all that is there and meets is found, and no more is found or opened than there is.
 use mathlib.Core.Path.{_≡_, refl, ap}
 use mathlib.Core.Bool.{true, false}
 use mathlib.Core.List.{List, [], _∷_, _++_, flatMap, List·Memᴰ·head, List·Memᴰ·not-nil, List·Memᴰ·eq-of-singleton}

@@ -1,4 +1,4 @@
--- Laws of `Gathering`.
+-- From what the walk gathered to the hits: sorted, each key is a hit, once, and fits a word.
 use mathlib.Core.Path.{_≡_, refl, sym, ap, _∙_, subst}
 use mathlib.Core.List.{List, _++_, map, map-append, Memᴰ·map, Memᴰ·of-map}
 use Prim.Native.Nat.{ℕ, _^_, _≤_, _<_}

@@ -1,4 +1,4 @@
--- Laws of `Opening`.
+-- What one entry leads to, and for each way through the walk what it needs and what it leaves.
 use mathlib.Core.Path.{_≡_, refl, sym, ap, _∙_}
 use mathlib.Core.Bool.{true, false}
 use mathlib.Core.List.{List, [], _∷_, _++_, map, map-append, flatMap, append-assoc, append-nil}

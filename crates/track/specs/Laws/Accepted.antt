@@ -1,4 +1,4 @@
--- Laws of `Accepted`.
+-- Where 4 is not given no range can be denied, and each is stable; so what is accepted keeps its ranges.
 use mathlib.Core.Path.{sym, subst}
 use lib.IntN.{ℤ}
 use Rattle.whole.specs.Laws.Order.{≤ℤ-stable}

@@ -1,4 +1,4 @@
--- Laws of `Cut`.
+-- An interval cut by a straight line holds the instants at which the line is not negative, and no others.
 use mathlib.Core.Path.{_≡_, refl}
 use mathlib.Core.Bool.{Bool, true, false, cond}
 use native.Mathlib.Nat.{mul-le-mul-right}

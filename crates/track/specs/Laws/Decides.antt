@@ -1,4 +1,4 @@
--- Laws of `Decides`.
+-- The interval of the test holds the instants of the rule: on one axis, on both, in life. So whether bounds meet a query is decided.
 use mathlib.Core.Path.{_≡_, ap, _∙_}
 use mathlib.Core.Logic.{_↔_}
 use mathlib.Core.Bool.{Bool, true, false}

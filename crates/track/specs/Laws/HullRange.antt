@@ -1,4 +1,4 @@
--- Laws of `HullRange`.
+-- The edges of an entry keep their ranges, from the stamp on and taken back to minute 0.
 use mathlib.Core.Path.{_≡_, subst}
 use mathlib.Core.List.{List, [], _∷_}
 use Prim.Native.Nat.{ℕ, _+_, _≤_}

@@ -1,4 +1,4 @@
--- Laws of `Numbers`.
+-- What the ranges of a report give: a kept position within its bound, an identifier that fits a word.
 use lib.IntN.{ℤ}
 use lib.Signed.{leZ-yes}
 use Rattle.whole.specs.Laws.Order.{≤ℤ-trans}

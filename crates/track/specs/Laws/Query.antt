@@ -1,4 +1,4 @@
--- Laws of `Query`.
+-- A query judged by a flag that tells whether it goes backward.
 use mathlib.Core.Bool.{Bool}
 use mathlib.Core.Logic.{inl, inr, ⊎-elim, Iff·rfl}
 use mathlib.Core.Path.{refl}

@@ -1,4 +1,4 @@
--- Laws of `Refusals`.
+-- The reasons fix the number that is given; lists of reasons put together, and said in another way.
 use mathlib.Core.Path.{_≡_, refl, sym, ap, _∙_}
 use mathlib.Core.Logic.{inl, inr, _↔_}
 use mathlib.Core.Bool.{Bool, true, false, cond}

@@ -1,4 +1,4 @@
--- Laws of `Small`.
+-- The numbers of the meeting test stay in their ranges, however many cuts follow one another.
 use mathlib.Core.Bool.{Bool, true, false, cond}
 use mathlib.Core.Path.{_≡_, refl}
 use Prim.Native.Nat.{_^_}

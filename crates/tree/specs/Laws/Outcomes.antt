@@ -1,4 +1,4 @@
--- Laws of `Outcomes`.
+-- Each way through a report and a drop: what the tests have told, and that the step is then the one that `Steps` asks for.
 use mathlib.Core.Path.{_≡_, refl, sym, ap, _∙_, subst}
 use mathlib.Core.Logic.{inl, inr}
 use mathlib.Core.List.{List, [], _∷_}
