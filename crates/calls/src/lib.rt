@@ -9,7 +9,7 @@ use track::queries::Query;
 use track::queries::query_from;
 use track::queries::window_from;
 use track::report::report_from;
-use words::number;
+use words::word_of;
 ghost use Rattle.track.specs.Answer.{movingAnswers};
 ghost use Rattle.track.specs.Query.{queryFrom, windowFrom};
 ghost use Rattle.track.specs.Refusals.{Gives};
@@ -80,12 +80,12 @@ fn in_numbers(answer: Answer, hits: &mut i32, opened: &mut i32) -> i32
 {
     match answer {
         Answer::Listed(found) => {
-            *hits = number(found.hits);
-            *opened = number(found.opened);
+            *hits = word_of(found.hits);
+            *opened = word_of(found.opened);
             0
         }
         Answer::TooMany(n) => {
-            *hits = number(n);
+            *hits = word_of(n);
             *opened = 0;
             10
         }

@@ -8,7 +8,7 @@ use sheet_write::Written;
 use sheet_write::write_sheet;
 use track::cell::Cell;
 use track::minute::Minute;
-use words::number;
+use words::word_of;
 ghost use mathlib.Core.Path.{_≡_};
 ghost use Rattle.track.specs.Refusals.{Gives};
 ghost use Rattle.leafing.specs.NextLive.{openingReasons};
@@ -21,7 +21,7 @@ fn written_in_numbers(written: Written, total: &mut i32) -> i32
 {
     match written {
         Written::Total(n) => {
-            *total = number(n);
+            *total = word_of(n);
             0
         }
         Written::Refused(why) => {

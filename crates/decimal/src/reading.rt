@@ -68,7 +68,7 @@ fn digits(line: &[u8], at: usize) -> NumberFound
     if !right {
         return NumberFound::Bad;
     }
-    NumberFound::Number(words::number(value(line, at, n)), at + n)
+    NumberFound::Number(words::word_of(value(line, at, n)), at + n)
 }
 
 pub fn read_number(line: &[u8], at: usize) -> NumberFound

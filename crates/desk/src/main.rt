@@ -6,6 +6,8 @@ use libc::STDERR_FILENO;
 use libc::STDIN_FILENO;
 use libc::STDOUT_FILENO;
 use table::fresh::fresh;
+use words::HEADER;
+use words::NODE_WORDS;
 ghost use mathlib.Core.Path.{_≡_};
 ghost use Prim.Native.Nat.{_-_, _^_};
 ghost use lib.IntN.{pos};
@@ -17,7 +19,7 @@ ghost use Rattle.desk_serve.specs.Served.{CanServe};
 ghost use Rattle.desk.specs.Talked.{Talked, Finished, Turned, Ran};
 
 // The words of a table for the desk's cells.
-const TABLE_WORDS: usize = 16 + 96 * (DESK_CELLS / 2 + 1);
+const TABLE_WORDS: usize = HEADER + NODE_WORDS * (DESK_CELLS / 2 + 1);
 
 const CAPACITY: i32 = DESK_CELLS as i32;
 

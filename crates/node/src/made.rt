@@ -4,7 +4,7 @@ use crate::worked::worked_row;
 use track::cell::Cell;
 use track::meeting::Bounds;
 use words::Entry;
-use words::number;
+use words::word_of;
 ghost use mathlib.Core.Path.{_≡_};
 ghost use Prim.Native.Nat.{_<_, _^_};
 ghost use mir.Syntax.{w32};
@@ -50,7 +50,7 @@ pub fn inner_entry(child: usize, b: Bounds, until: i32, stamp: i32) -> Entry
     let x = b[0];
     let y = b[1];
     [
-        number(child),
+        word_of(child),
         x[0],
         x[1],
         x[2],

@@ -4,8 +4,8 @@ use crate::bytes::read_word;
 use crate::record::HEADER_BYTES;
 use crate::record::total_for;
 use track::minute::is_minute;
-use words::number;
 use words::place;
+use words::word_of;
 ghost use mathlib.Core.Path.{_≡_};
 ghost use Prim.Native.Nat.{_^_, _<_, _≤_};
 ghost use lib.IntN.{pos};
@@ -51,7 +51,12 @@ pub fn put_header(bytes: &mut [u8], clock: i32, n: usize)
     requires { ⌜ (totalFor n < 2 ^ 31) × (headerBytes ≤ length (now bytes)) ⌝ }
     ensures { λ _. ⌜ now (bytes .exit) ≡ put (now (bytes .entry)) 0 headerBytes (headerOf clock n) ⌝ }
 {
-    let numbers = [number(n), number(HEADER_BYTES), clock, number(total_for(n))];
+    let numbers = [
+        word_of(n),
+        word_of(HEADER_BYTES),
+        clock,
+        word_of(total_for(n)),
+    ];
     put_words(bytes, 0, &numbers);
 }
 

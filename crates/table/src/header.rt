@@ -2,10 +2,10 @@
 use track::minute::is_minute;
 use track::range::MOST_CELLS;
 use words::node_start;
-use words::number;
 use words::place;
 use words::place_at;
 use words::word;
+use words::word_of;
 ghost use mathlib.Core.Path.{_≡_};
 ghost use Prim.Native.Nat.{_≤_, _<_, _^_};
 ghost use lib.ListN.{length};
@@ -69,8 +69,8 @@ pub fn set_root(t: &mut [i32], root: usize, height: usize)
     requires { ⌜ (header ≤ length (now t)) × (root < 2 ^ 31) × (height < 2 ^ 31) ⌝ }
     ensures { λ _. ⌜ Rooted (now (t .entry)) root height (now (t .exit)) ⌝ }
 {
-    t[ROOT] = number(root);
-    t[HEIGHT] = number(height);
+    t[ROOT] = word_of(root);
+    t[HEIGHT] = word_of(height);
 }
 
 pub fn is_capacity(n: i32) -> bool

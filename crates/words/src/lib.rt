@@ -60,7 +60,7 @@ pub fn place_at(t: &[i32], at: usize) -> usize
 }
 
 // A count or an index as a word.
-pub fn number(n: usize) -> i32
+pub fn word_of(n: usize) -> i32
     requires { ⌜ n < 2 ^ 31 ⌝ }
     ensures { λ r. ⌜ r ≡ pos n ⌝ }
 {
@@ -143,5 +143,5 @@ pub fn put_count(node: &mut [i32], n: usize)
     requires { ⌜ (0 < length (now node)) × (n < 2 ^ 31) ⌝ }
     ensures { λ _. ⌜ now (node .exit) ≡ withCount (now (node .entry)) n ⌝ }
 {
-    node[0] = number(n);
+    node[0] = word_of(n);
 }

@@ -6,18 +6,18 @@ use Rattle.query.specs.Inner.Few.{Few}
 use Rattle.calls.proofs.in_numbers.Statement.{statement}
 use Rattle.calls.proofs.in_numbers.Tie as tie
 
-number-requires : tie.Need-number-requires
-number-requires c κs =
+word-of-requires : tie.Need-word-of-requires
+word-of-requires c κs =
     let few = subst Few (c .before .answer .given .1) (c .before .before .before .pre) in
     omega (arith, few .few-hits)
 
-number-requires-2 : tie.Need-number-requires-2
-number-requires-2 c κs =
+word-of-requires-2 : tie.Need-word-of-requires-2
+word-of-requires-2 c κs =
     let few = subst Few (c .before .before .answer .given .1) (c .before .before .before .before .pre) in
     omega (arith, few .few-opened)
 
-number-requires-3 : tie.Need-number-requires-3
-number-requires-3 c κs =
+word-of-requires-3 : tie.Need-word-of-requires-3
+word-of-requires-3 c κs =
     let few = subst Few (c .before .answer2 .given .1) (c .before .before .before .pre) in
     omega (arith, few .few-hits)
 
@@ -26,29 +26,29 @@ returns c =
     rw (c .before .before .before .answer .given .1)
     (record {
       number-is = refl;
-      hits-is = word-back (c .before .number .result) (c .before .number .ok) ∙ c .before .number .ensures;
-      opened-is = word-back (c .number2 .result) (c .number2 .ok) ∙ c .number2 .ensures;
+      hits-is = word-back (c .before .word-of .result) (c .before .word-of .ok) ∙ c .before .word-of .ensures;
+      opened-is = word-back (c .word-of2 .result) (c .word-of2 .ok) ∙ c .word-of2 .ensures;
     })
 
 returns-2 : tie.Need-returns-2
 returns-2 c =
     rw (c .before .before .answer2 .given .1)
-    (record { number-is = refl; hits-is = word-back (c .number3 .result) (c .number3 .ok) ∙ c .number3 .ensures; opened-is = refl })
+    (record { number-is = refl; hits-is = word-back (c .word-of3 .result) (c .word-of3 .ok) ∙ c .word-of3 .ensures; opened-is = refl })
 
 returns-3 : tie.Need-returns-3
 returns-3 c =
     rw (c .before .before .answer3 .given .1)
-    (record { number-is = word-back (c .number4 .result) (c .number4 .ok) ∙ c .number4 .ensures; hits-is = refl; opened-is = refl })
+    (record { number-is = word-back (c .number .result) (c .number .ok) ∙ c .number .ensures; hits-is = refl; opened-is = refl })
 
 pub in-numbers-spec : {M : Type 1} → statement M
 in-numbers-spec =
     tie.close
     (tie.spec
     (λ c. search needs)
-    number-requires
-    number-requires-2
+    word-of-requires
+    word-of-requires-2
     (λ c. search needs)
-    number-requires-3
+    word-of-requires-3
     (λ c. search needs)
     (λ c κs. search needs)
     returns

@@ -31,11 +31,11 @@ from-start : (stamp start p q : ℤ) → pos 1 ≤ℤ q → stamp ≤ℤ start �
 from-start stamp start p q g h k = ≤ℤ-trans (*ℤ-mono stamp start q h (≤ℤ-trans (leZ-yes tt) g)) k
 
 -- where one of its child's entries meets a query that does not start before its stamp, it meets the query at the same instant
-pub entry-covers : {leaf : Bool} {e f : Entry} {es : List Entry} {k : Query} {t : Instant} → WorkedOut leaf e es → f ∈ es → stampOf e ≤ℤ k .start .at
-    → MeetsAt (boundsOf leaf f) (untilOf leaf f) k t → MeetsAt (boundsOf false e) (untilOf false e) k t
-entry-covers {leaf} {e} {f} {es} {k} w m early (met, at-t) =
+pub entry-covers : {leaf : Bool} {e f : Entry} {es : List Entry} {q : Query} {t : Instant} → WorkedOut leaf e es → f ∈ es → stampOf e ≤ℤ q .start .at
+    → MeetsAt (boundsOf leaf f) (untilOf leaf f) q t → MeetsAt (boundsOf false e) (untilOf false e) q t
+entry-covers {leaf} {e} {f} {es} {q} w m early (met, at-t) =
     let t = met .at in
-    let late = from-start (stampOf e) (k .start .at) (t .p) (t .q) (t .q-positive) early (met .in-query .from) in
+    let late = from-start (stampOf e) (q .start .at) (t .p) (t .q) (t .q-positive) early (met .in-query .from) in
     let on-x : Covers (stampOf e) (rowOf false 0 e) (rowOf leaf 0 f) = rw (w .on-x) (hull-on-covers leaf 0 (stampOf e) es m) in
     let on-y : Covers (stampOf e) (rowOf false 1 e) (rowOf leaf 1 f) = rw (w .on-y) (hull-on-covers leaf 1 (stampOf e) es m) in
     let until : untilOf leaf f ≤ℤ untilOf false e = rw (w .until) (latest-above leaf es m) in (
@@ -43,17 +43,17 @@ entry-covers {leaf} {e} {f} {es} {k} w m early (met, at-t) =
         at = t;
         in-query = met .in-query;
         in-life = record { to = ≤ℤ-trans (met .in-life .to) (*ℤ-mono _ _ (t .q) until (≤ℤ-trans (leZ-yes tt) (t .q-positive))) };
-        on-x = covers-touches on-x k (k .x) t late (met .on-x);
-        on-y = covers-touches on-y k (k .y) t late (met .on-y);
+        on-x = covers-touches on-x q (q .x) t late (met .on-x);
+        on-y = covers-touches on-y q (q .y) t late (met .on-y);
       },
       at-t,
     )
 
 -- ---- any number of levels
-module _ (N : Nodes) (cells : ℕ) (clock : ℤ) (k : Query) (due : clock ≤ℤ k .start .at) where
+module _ (N : Nodes) (cells : ℕ) (clock : ℤ) (q : Query) (due : clock ≤ℤ q .start .at) where
   -- an entry meets the query at the instant at which a leaf entry beneath it does
   below-covers : (h : ℕ) {e f : Entry} {t : Instant} → EntrySound N cells clock h e → TreeSound N cells clock h (childOf e) → f ∈ leavesOf N h (childOf e)
-      → MeetsAt (boundsOf true f) (untilOf true f) k t → MeetsAt (boundsOf false e) (untilOf false e) k t
+      → MeetsAt (boundsOf true f) (untilOf true f) q t → MeetsAt (boundsOf false e) (untilOf false e) q t
   unfolding leavesOf TreeSound
   below-covers zero s tree m met = entry-covers (s .worked-out) m (≤ℤ-trans (s .stamped) due) met
   below-covers (suc h) {e} s tree m met =
@@ -63,12 +63,12 @@ module _ (N : Nodes) (cells : ℕ) (clock : ℤ) (k : Query) (due : clock ≤ℤ
 
   -- the same of an entry of a sound inner node
   pub covers : (h i : ℕ) {e f : Entry} {t : Instant} → TreeSound N cells clock (suc h) i → e ∈ N i → f ∈ leavesOf N h (childOf e)
-      → MeetsAt (boundsOf true f) (untilOf true f) k t → MeetsAt (boundsOf false e) (untilOf false e) k t
+      → MeetsAt (boundsOf true f) (untilOf true f) q t → MeetsAt (boundsOf false e) (untilOf false e) q t
   unfolding TreeSound
   covers h i {e} tree m n met = let u = tree e m in below-covers h (u .0) (u .1) n met
 
   -- so a subtree whose entry does not meet the query holds no cell that does
   pub covers-cell : (h i : ℕ) {e f : Entry} → TreeSound N cells clock (suc h) i → e ∈ N i → f ∈ leavesOf N h (childOf e)
-      → CellMeets (cellOf f) k → Meets (boundsOf false e) (untilOf false e) k
+      → CellMeets (cellOf f) q → Meets (boundsOf false e) (untilOf false e) q
   unfolding boundsOf untilOf cellOf
   covers-cell h i tree m n met = covers h i tree m n (met, refl) .0

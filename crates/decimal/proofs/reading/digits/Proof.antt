@@ -18,8 +18,8 @@ right c = passed-not between-tells (c .if1 .left)
 value-requires : tie.Need-value-requires
 value-requires c κs = let run = c .before .count-digits .ensures in (run .inside, right c .1, run .digits)
 
-number-requires : tie.Need-number-requires
-number-requires c κs =
+word-of-requires : tie.Need-word-of-requires
+word-of-requires c κs =
     let run = c .before .before in
     let s = run .before .before in
     omega (arith, value-small (s .args .line .now) (s .args .at) (run .count-digits .result) (run .count-digits .ensures .inside) (right (c .before) .1) (c .value .ensures))
@@ -30,9 +30,9 @@ returns-2 c =
     let run = counted .before in
     let s = run .before .before in
     enough (s .args .line .now) (s .args .at) (run .count-digits .ensures) (right counted) (c .before .value .ensures)
-    (word-back (c .number .result) (c .number .ok) ∙ c .number .ensures)
+    (word-back (c .word-of .result) (c .word-of .ok) ∙ c .word-of .ensures)
 
 pub digits-spec : {M : Type 1} → statement M
 digits-spec =
     tie.close
-    (tie.spec (λ c κs. search needs) returns value-requires number-requires (λ c. search needs) returns-2)
+    (tie.spec (λ c κs. search needs) returns value-requires word-of-requires (λ c. search needs) returns-2)

@@ -22,8 +22,8 @@ returns c =
     let s = n .before .before .before in
     let x = getD (s .args .t2) 0 [] in
     let y = getD (s .args .t2) 1 [] in
-    simp (word-back (n .number .result) (n .number .ok), read-at w32 x 0 (t16 .t16 .given), read-at w32 x 1 (t19 .t19 .given), read-at w32 x 2 (t22 .t22 .given), read-at w32 x 3 (t25 .t25 .given), read-at w32 y 0 (t28 .t28 .given), read-at w32 y 1 (t31 .t31 .given), read-at w32 y 2 (t34 .t34 .given), read-at w32 y 3 (c .t37 .given), back (s .fits .until), back (s .fits .stamp))
-    (rw (n .number .ensures))
+    simp (word-back (n .word-of .result) (n .word-of .ok), read-at w32 x 0 (t16 .t16 .given), read-at w32 x 1 (t19 .t19 .given), read-at w32 x 2 (t22 .t22 .given), read-at w32 x 3 (t25 .t25 .given), read-at w32 y 0 (t28 .t28 .given), read-at w32 y 1 (t31 .t31 .given), read-at w32 y 2 (t34 .t34 .given), read-at w32 y 3 (c .t37 .given), back (s .fits .until), back (s .fits .stamp))
+    (rw (n .word-of .ensures))
 
 pub inner-entry-spec : {M : Type 1} → statement M
 inner-entry-spec =

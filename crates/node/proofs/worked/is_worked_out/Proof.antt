@@ -1,4 +1,4 @@
-use mathlib.Core.Path.{_≡_, _∙_}
+use mathlib.Core.Path.{_≡_, sym, _∙_}
 use mathlib.Core.Bool.{false}
 use Prim.Native.Nat.{ℕ}
 use lib.Dec.{eqb}
@@ -33,7 +33,7 @@ until-told : (c : tie.After-latest) → let s = c .before .before .before .befor
 until-told c =
     let u = c .before .until in
     let l = c .latest in
-    tells-as (equal-tells w32 (u .result) (l .result) (sfits-of (u .ok)) (sfits-of (l .ok))) (λ e. cc) (λ e. cc)
+    tells-as (equal-tells w32 (u .result) (l .result) (sfits-of (u .ok)) (sfits-of (l .ok))) (λ e. sym (u .ensures) ∙ e ∙ l .ensures) (λ e. u .ensures ∙ e ∙ sym (l .ensures))
 
 worked-row-requires : tie.Need-worked-row-requires
 worked-row-requires c κs = simp minute-is (search needs, c .before .before .before .pre .1)

@@ -8,14 +8,14 @@ use borrow.Author.Needs.{needs}
 use Rattle.sheet.proofs.header.put_header.Statement.{statement}
 use Rattle.sheet.proofs.header.put_header.Tie as tie
 
-count-is : (c : tie.After-number) → toZ w32 (ofZ w32 (c .number .result)) ≡ pos (c .before .before .args .n)
-count-is c = word-back (c .number .result) (c .number .ok) ∙ c .number .ensures
+count-is : (c : tie.After-word-of) → toZ w32 (ofZ w32 (c .word-of .result)) ≡ pos (c .before .before .args .n)
+count-is c = word-back (c .word-of .result) (c .word-of .ok) ∙ c .word-of .ensures
 
-offset-is : (c : tie.After-number2) → toZ w32 (ofZ w32 (c .number2 .result)) ≡ pos headerBytes
-offset-is c = word-back (c .number2 .result) (c .number2 .ok) ∙ c .number2 .ensures
+offset-is : (c : tie.After-word-of2) → toZ w32 (ofZ w32 (c .word-of2 .result)) ≡ pos headerBytes
+offset-is c = word-back (c .word-of2 .result) (c .word-of2 .ok) ∙ c .word-of2 .ensures
 
-total-is : (c : tie.After-number3) → toZ w32 (ofZ w32 (c .number3 .result)) ≡ pos (totalFor (c .before .before .before .before .before .args .n))
-total-is c = word-back (c .number3 .result) (c .number3 .ok) ∙ c .number3 .ensures ∙ ap pos (c .before .total-for .ensures)
+total-is : (c : tie.After-word-of3) → toZ w32 (ofZ w32 (c .word-of3 .result)) ≡ pos (totalFor (c .before .before .before .before .before .args .n))
+total-is c = word-back (c .word-of3 .result) (c .word-of3 .ok) ∙ c .word-of3 .ensures ∙ ap pos (c .before .total-for .ensures)
 
 returns : tie.Need-returns
 returns c =

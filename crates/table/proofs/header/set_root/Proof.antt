@@ -12,8 +12,8 @@ slice-set-from-t-2 c = simp length-set (omega (arith, c .before .before .pre .0)
 returns : tie.Need-returns
 returns c =
     let s = c .before .before in
-    let n = c .before .number in
-    let m = c .number2 in
+    let n = c .before .word-of in
+    let m = c .word-of2 in
     rw (word-back (n .result) (n .ok), word-back (m .result) (m .ok), n .ensures, m .ensures) (rooted (s .args .t .now) (s .args .root) (s .args .height) (s .pre .0))
 
 pub set-root-spec : {M : Type 1} → statement M
