@@ -1,5 +1,5 @@
-//! Checks of Bradawlet from outside: what the static libraries answer is compared with an
-//! exact computation that shares no code and no method with them.
+//! Checks of Bradawlet from outside: what the library and the crate over it answer is compared with an exact
+//! computation that shares no code and no method with them.
 
 pub mod comparison;
 pub mod desk;
@@ -11,3 +11,4 @@ pub mod random;
 pub mod refusal;
 pub mod tables;
 pub mod tally;
+pub mod wrapped;

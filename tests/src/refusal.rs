@@ -5,19 +5,22 @@ use crate::question::{Kind, Query, Question, Rectangle, QUERY_AT, RANGES};
 
 pub const NO: i32 = 0;
 pub const YES: i32 = 1;
-pub const UNSOUND: i32 = 1;
-pub const NO_SUCH_CAPACITY: i32 = 2;
-pub const TABLE_TOO_SHORT: i32 = 3;
+pub const NOT_SOUND: i32 = 1;
+pub const BAD_CAPACITY: i32 = 2;
+pub const SHORT_TABLE: i32 = 3;
 pub const OUT_OF_RANGE: i32 = 4;
-pub const TOO_EARLY: i32 = 5;
-pub const EXPIRED_AT_REPORT: i32 = 6;
+pub const BEFORE_CLOCK: i32 = 5;
+pub const EXPIRES_FIRST: i32 = 6;
 pub const BACKWARD: i32 = 7;
 pub const NOT_LIVE: i32 = 8;
 pub const FULL: i32 = 9;
-pub const LIST_TOO_SHORT: i32 = 10;
+pub const SHORT_LIST: i32 = 10;
 pub const BAD_HEADER: i32 = 11;
 pub const BAD_RECORD: i32 = 12;
-pub const BYTES_TOO_SHORT: i32 = 13;
+pub const SHORT_BYTES: i32 = 13;
+
+/// The desk's model calls it so.
+pub const LIST_TOO_SHORT: i32 = SHORT_LIST;
 
 fn out_of_range(kind: Kind, question: &Question) -> bool {
     let numbers = question.numbers();
@@ -40,9 +43,9 @@ pub fn answer(kind: Kind, question: &Question) -> i32 {
     if out_of_range(kind, question) {
         OUT_OF_RANGE
     } else if question.query.start < question.report.minute {
-        TOO_EARLY
+        BEFORE_CLOCK
     } else if question.report.expiry < question.report.minute {
-        EXPIRED_AT_REPORT
+        EXPIRES_FIRST
     } else if backward(kind, &question.query) {
         BACKWARD
     } else if meets(question) {
@@ -59,7 +62,7 @@ pub fn query_refusal(kind: Kind, clock: i32, query: &Query) -> Option<i32> {
     if !query.numbers().iter().zip(ranges).all(inside) {
         Some(OUT_OF_RANGE)
     } else if query.start < clock {
-        Some(TOO_EARLY)
+        Some(BEFORE_CLOCK)
     } else if backward(kind, query) {
         Some(BACKWARD)
     } else {

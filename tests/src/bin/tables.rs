@@ -1,6 +1,11 @@
-//! Compares the calls of libcalls.a over tables with a plain scan and a judge of their own. With the
+//! Compares the calls of libbradawlet.a over tables with a plain scan and a judge of their own. With the
 //! argument `opened` it compares nothing, and counts the nodes that queries open over a day.
+//!
+//! The calls are declared here once more, and not asked through the crate: what is lent to them is no table
+//! at times, and lies beside pages without access.
 
+// The crate brings the archive into the link.
+use bradawlet as _;
 use outside::pages::{Beside, Side};
 use outside::question::{Kind, Report, QUERY_NUMBERS};
 use outside::tables::library::{Answer, Library, Written};
@@ -9,7 +14,6 @@ use outside::tables::sheet::RECORD_NUMBERS;
 use outside::tables::{families, opened};
 use std::process::ExitCode;
 
-#[link(name = "calls", kind = "static")]
 extern "C" {
     fn bradawlet_fresh(table: *mut i32, words: usize, cells: i32) -> i32;
 

@@ -4,7 +4,7 @@ use super::plain::small_ordered;
 use super::Case;
 use crate::question::{Kind, Question, NUMBERS, RANGES};
 use crate::random::Random;
-use crate::refusal::{BACKWARD, EXPIRED_AT_REPORT, OUT_OF_RANGE, TOO_EARLY};
+use crate::refusal::{BACKWARD, BEFORE_CLOCK, EXPIRES_FIRST, OUT_OF_RANGE};
 
 const MINUTE: usize = 5;
 const EXPIRY: usize = 6;
@@ -49,7 +49,7 @@ pub fn several(random: &mut Random, kind: Kind) -> Case {
         *minute += 2;
     }
     // Out of range comes last, so that no other reason puts its argument right again.
-    let mut reasons = vec![TOO_EARLY, EXPIRED_AT_REPORT, BACKWARD, OUT_OF_RANGE];
+    let mut reasons = vec![BEFORE_CLOCK, EXPIRES_FIRST, BACKWARD, OUT_OF_RANGE];
     reasons.retain(|_| random.coin());
     for &reason in &reasons {
         give_reason(random, kind, reason, &mut numbers);
@@ -60,8 +60,8 @@ pub fn several(random: &mut Random, kind: Kind) -> Case {
 
 fn give_reason(random: &mut Random, kind: Kind, reason: i32, numbers: &mut [i32; NUMBERS]) {
     match reason {
-        TOO_EARLY => numbers[START] = numbers[MINUTE] - 1,
-        EXPIRED_AT_REPORT => numbers[EXPIRY] = numbers[MINUTE] - 1,
+        BEFORE_CLOCK => numbers[START] = numbers[MINUTE] - 1,
+        EXPIRES_FIRST => numbers[EXPIRY] = numbers[MINUTE] - 1,
         BACKWARD => turn_backward(random, kind, numbers),
         _ => {
             let argument = any_argument(random, kind);

@@ -4,7 +4,7 @@ use super::model::{Change, Model};
 use super::worlds::Cell;
 use crate::question::{Report, MINUTE, POSITION, QUERY_AT, RANGES, VELOCITY};
 use crate::random::Random;
-use crate::refusal::{EXPIRED_AT_REPORT, OUT_OF_RANGE, TOO_EARLY};
+use crate::refusal::{BEFORE_CLOCK, EXPIRES_FIRST, OUT_OF_RANGE};
 
 /// How the calls of one run are drawn.
 pub struct Style {
@@ -80,7 +80,7 @@ fn any_of(random: &mut Random, cells: &[Cell]) -> i32 {
 /// With any set of the reasons to refuse that lie in the arguments, none and all of them too.
 pub fn spoiled(random: &mut Random, clock: i32, change: &Change) -> Change {
     // Out of range comes last, so that no other reason puts its argument right again.
-    let mut reasons = vec![TOO_EARLY, EXPIRED_AT_REPORT, OUT_OF_RANGE];
+    let mut reasons = vec![BEFORE_CLOCK, EXPIRES_FIRST, OUT_OF_RANGE];
     reasons.retain(|_| random.coin());
     spoiled_by(random, clock, change, &reasons)
 }
@@ -98,7 +98,7 @@ pub fn spoiled_by(random: &mut Random, clock: i32, change: &Change, reasons: &[i
             let (mut id, mut minute) = (*id, *minute);
             for &reason in reasons {
                 match reason {
-                    TOO_EARLY => minute = before(random, clock),
+                    BEFORE_CLOCK => minute = before(random, clock),
                     OUT_OF_RANGE if random.coin() => id = random.one_of(&[0, -1, i32::MIN]),
                     OUT_OF_RANGE => minute = outside(random, MINUTE_AT),
                     _ => {}
@@ -111,8 +111,8 @@ pub fn spoiled_by(random: &mut Random, clock: i32, change: &Change, reasons: &[i
 
 fn spoil_report(random: &mut Random, clock: i32, numbers: &mut [i32; QUERY_AT], reason: i32) {
     match reason {
-        TOO_EARLY => numbers[MINUTE_AT] = before(random, clock),
-        EXPIRED_AT_REPORT => numbers[EXPIRY_AT] = before(random, numbers[MINUTE_AT]),
+        BEFORE_CLOCK => numbers[MINUTE_AT] = before(random, clock),
+        EXPIRES_FIRST => numbers[EXPIRY_AT] = before(random, numbers[MINUTE_AT]),
         _ => {
             let number = random.place(QUERY_AT);
             numbers[number] = outside(random, number);

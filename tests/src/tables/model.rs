@@ -2,7 +2,7 @@
 
 use super::worlds::Cell;
 use crate::question::{Report, RANGES};
-use crate::refusal::{EXPIRED_AT_REPORT, FULL, NOT_LIVE, OUT_OF_RANGE, TOO_EARLY};
+use crate::refusal::{BEFORE_CLOCK, EXPIRES_FIRST, FULL, NOT_LIVE, OUT_OF_RANGE};
 
 /// A call that changes a table.
 #[derive(Clone, Copy, Debug)]
@@ -71,10 +71,10 @@ impl Model {
             return OUT_OF_RANGE;
         }
         if change.minute() < self.clock {
-            return TOO_EARLY;
+            return BEFORE_CLOCK;
         }
         match change {
-            Change::Report(report) if report.expiry < report.minute => EXPIRED_AT_REPORT,
+            Change::Report(report) if report.expiry < report.minute => EXPIRES_FIRST,
             Change::Report(_) if self.others(change).len() as i32 >= self.capacity => FULL,
             Change::Drop { id, minute } if !self.live_at(*minute).iter().any(|cell| cell.id == *id) => {
                 NOT_LIVE

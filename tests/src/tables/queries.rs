@@ -5,7 +5,7 @@ use super::reading;
 use super::scan::Asked;
 use crate::question::{Kind, Query, Rectangle, MINUTE, POSITION, QUERY_AT, QUERY_NUMBERS, RANGES};
 use crate::random::Random;
-use crate::refusal::{BACKWARD, OUT_OF_RANGE, TOO_EARLY};
+use crate::refusal::{BACKWARD, BEFORE_CLOCK, OUT_OF_RANGE};
 
 pub const KINDS: [Kind; 2] = [Kind::Window, Kind::Moving];
 
@@ -110,7 +110,7 @@ fn near(random: &mut Random, low: i32, high: i32) -> (i32, i32) {
 /// With any set of the reasons to refuse a query, none and all of them too.
 pub fn spoiled(random: &mut Random, clock: i32, asked: &Asked) -> Asked {
     // Out of range comes last, so that no other reason puts its argument right again.
-    let mut reasons = vec![TOO_EARLY, BACKWARD, OUT_OF_RANGE];
+    let mut reasons = vec![BEFORE_CLOCK, BACKWARD, OUT_OF_RANGE];
     reasons.retain(|_| random.coin());
     spoiled_by(random, clock, asked, &reasons)
 }
@@ -120,7 +120,7 @@ pub fn spoiled_by(random: &mut Random, clock: i32, asked: &Asked, reasons: &[i32
     let mut changed = asked.query.numbers();
     for &reason in reasons {
         match reason {
-            TOO_EARLY => changed[START] = if random.coin() { clock - 1 } else { 0 },
+            BEFORE_CLOCK => changed[START] = if random.coin() { clock - 1 } else { 0 },
             BACKWARD => turn_backward(random, kind, &mut changed),
             _ => {
                 let number = random.place(numbers(kind));

@@ -8,7 +8,7 @@ use super::reading::{self, Reached};
 use super::worlds::Cell;
 use crate::meeting::Body;
 use crate::question::{Kind, Query, Report};
-use crate::refusal::{query_refusal, LIST_TOO_SHORT, UNSOUND};
+use crate::refusal::{query_refusal, NOT_SOUND, SHORT_LIST};
 
 #[derive(Clone, Copy, Debug)]
 pub struct Asked {
@@ -32,7 +32,7 @@ pub fn truth(words: &[i32], asked: &Asked) -> Truth {
     if judge::sound(words) {
         truth_if_sound(words, asked)
     } else {
-        Truth::Refused(UNSOUND)
+        Truth::Refused(NOT_SOUND)
     }
 }
 
@@ -71,7 +71,7 @@ impl Truth {
         let answer = match self {
             Truth::Refused(number) => Answer { number: *number, hits: 0, opened: 0 },
             Truth::Met { ids, .. } if ids.len() > list.len() => {
-                Answer { number: LIST_TOO_SHORT, hits: ids.len() as i32, opened: 0 }
+                Answer { number: SHORT_LIST, hits: ids.len() as i32, opened: 0 }
             }
             Truth::Met { ids, opened } => {
                 after[..ids.len()].copy_from_slice(ids);

@@ -3,7 +3,7 @@
 use super::Family;
 use crate::question::{Kind, MINUTE};
 use crate::random::Random;
-use crate::refusal::{query_refusal, BACKWARD, LIST_TOO_SHORT, OUT_OF_RANGE, TOO_EARLY};
+use crate::refusal::{query_refusal, BACKWARD, BEFORE_CLOCK, OUT_OF_RANGE, SHORT_LIST};
 use crate::tables::builder::{draw, Table};
 use crate::tables::library::{Lent, Library};
 use crate::tables::queries::{accepted, spoiled, KINDS};
@@ -74,7 +74,7 @@ fn ask(
         let list = random.rubbish_words(length);
         let mut list = Lent::of(random, &list);
         if length < hits {
-            family.count(format!("refused by {LIST_TOO_SHORT}"));
+            family.count(format!("refused by {SHORT_LIST}"));
         }
         family.note(library.differs(lent, &mut list, asked, &truth));
     }
@@ -126,7 +126,7 @@ fn order_agrees(library: &Library, kind: Kind, random: &mut Random) -> bool {
         }
     }
     let numbers =
-        [0, OUT_OF_RANGE, TOO_EARLY, BACKWARD, LIST_TOO_SHORT].map(|number| format!("number {number}"));
+        [0, OUT_OF_RANGE, BEFORE_CLOCK, BACKWARD, SHORT_LIST].map(|number| format!("number {number}"));
     let mut meant: Vec<&str> = numbers.iter().map(String::as_str).collect();
     meant.extend(["4 before 5", "5 before 7"]);
     family.holds(&meant, 100)
@@ -137,7 +137,7 @@ fn count_early_and_backward(table: &Table, asked: &Asked, family: &mut Family) {
     let at = |clock: i32| query_refusal(asked.kind, clock, &asked.query);
     match (at(table.clock), at(0)) {
         (Some(OUT_OF_RANGE), _) if asked.query.start < table.clock => family.count("4 before 5"),
-        (Some(TOO_EARLY), Some(BACKWARD)) => family.count("5 before 7"),
+        (Some(BEFORE_CLOCK), Some(BACKWARD)) => family.count("5 before 7"),
         _ => {}
     }
 }

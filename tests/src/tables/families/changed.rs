@@ -4,7 +4,7 @@
 use super::Family;
 use crate::question::MINUTE;
 use crate::random::Random;
-use crate::refusal::{EXPIRED_AT_REPORT, FULL, NOT_LIVE, OUT_OF_RANGE, TOO_EARLY, UNSOUND};
+use crate::refusal::{BEFORE_CLOCK, EXPIRES_FIRST, FULL, NOT_LIVE, NOT_SOUND, OUT_OF_RANGE};
 use crate::tables::afresh::{Entries, Step};
 use crate::tables::builder::{draw, Table};
 use crate::tables::changes::{spoiled, spoiled_by, Style};
@@ -155,11 +155,11 @@ impl<'a> Run<'a> {
             (Change::Drop { .. }, NOT_LIVE) if was_held => family.count("8: held, but expired at the clock"),
             (Change::Drop { .. }, NOT_LIVE) => family.count("8: not held"),
             (_, OUT_OF_RANGE) if early => family.count("4 before 5"),
-            (Change::Report(report), TOO_EARLY) if report.expiry < report.minute => {
+            (Change::Report(report), BEFORE_CLOCK) if report.expiry < report.minute => {
                 family.count("5 before 6")
             }
-            (Change::Drop { .. }, TOO_EARLY) if !was_held => family.count("5 before 8"),
-            (_, EXPIRED_AT_REPORT) if model.others(change).len() == capacity => family.count("6 before 9"),
+            (Change::Drop { .. }, BEFORE_CLOCK) if !was_held => family.count("5 before 8"),
+            (_, EXPIRES_FIRST) if model.others(change).len() == capacity => family.count("6 before 9"),
             _ => {}
         }
     }
@@ -357,13 +357,13 @@ fn damaged(library: &Library) -> bool {
             let report = Change::Report(style.report(&mut random, id, clock));
             let drop = Change::Drop { id, minute: clock };
             for right in [report, drop] {
-                let reason = random.one_of(&[TOO_EARLY, EXPIRED_AT_REPORT, OUT_OF_RANGE]);
+                let reason = random.one_of(&[BEFORE_CLOCK, EXPIRES_FIRST, OUT_OF_RANGE]);
                 let wrong = spoiled_by(&mut random, clock, &right, &[reason]);
                 for change in [right, wrong] {
                     let mut lent = Lent::of(&mut random, &words);
                     let number = (library.change)(lent.words(), &change);
                     family.count("refused by 1");
-                    if number != UNSOUND || !lent.untouched() {
+                    if number != NOT_SOUND || !lent.untouched() {
                         family.wrong(format!("{}: answered {number}, or wrote: {change:?}", damage.name));
                     }
                 }

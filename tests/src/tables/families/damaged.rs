@@ -3,7 +3,7 @@
 use super::Family;
 use crate::question::{Query, Rectangle, MINUTE, POSITION};
 use crate::random::Random;
-use crate::refusal::{BACKWARD, OUT_OF_RANGE, TOO_EARLY, UNSOUND};
+use crate::refusal::{BACKWARD, BEFORE_CLOCK, NOT_SOUND, OUT_OF_RANGE};
 use crate::tables::damage::{Damage, DAMAGES};
 use crate::tables::judge::{self, Clause};
 use crate::tables::layout::CLOCK;
@@ -66,10 +66,10 @@ fn ask(library: &Library, words: &[i32], random: &mut Random, family: &mut Famil
         let right = Asked { kind, query };
         let list = random.rubbish_words(300);
         let mut list = Lent::of(random, &list);
-        let refusal = Truth::Refused(UNSOUND);
+        let refusal = Truth::Refused(NOT_SOUND);
         family.count("right arguments");
         family.note(library.differs(&mut table, &mut list, &right, &refusal));
-        for reason in [OUT_OF_RANGE, TOO_EARLY, BACKWARD] {
+        for reason in [OUT_OF_RANGE, BEFORE_CLOCK, BACKWARD] {
             let wrong = spoiled_by(random, clock, &right, &[reason]);
             family.count("wrong arguments");
             family.note(library.differs(&mut table, &mut list, &wrong, &refusal));

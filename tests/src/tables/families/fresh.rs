@@ -2,7 +2,7 @@
 
 use super::Family;
 use crate::random::Random;
-use crate::refusal::{NO_SUCH_CAPACITY, TABLE_TOO_SHORT};
+use crate::refusal::{BAD_CAPACITY, SHORT_TABLE};
 use crate::tables::builder::Table;
 use crate::tables::judge;
 use crate::tables::layout::*;
@@ -53,8 +53,8 @@ fn make(library: &Library, capacity: i32, words: &[i32], random: &mut Random, fa
     let mut lent = Lent::of(random, words);
     let expected = match capacity {
         1..=LARGEST if words.len() >= words_for(capacity) => 0,
-        1..=LARGEST => TABLE_TOO_SHORT,
-        _ => NO_SUCH_CAPACITY,
+        1..=LARGEST => SHORT_TABLE,
+        _ => BAD_CAPACITY,
     };
     let number = (library.fresh)(lent.words(), capacity);
     let here = format!("for {capacity} cells in {} words", words.len());
@@ -64,7 +64,7 @@ fn make(library: &Library, capacity: i32, words: &[i32], random: &mut Random, fa
     }
     if expected != 0 {
         family.count(format!("refused by {expected}"));
-        if expected == TABLE_TOO_SHORT && words.len() + 1 == words_for(capacity) {
+        if expected == SHORT_TABLE && words.len() + 1 == words_for(capacity) {
             family.count("refused by 3 for one word");
         }
         if !lent.untouched() {

@@ -2,7 +2,7 @@
 
 use super::Family;
 use crate::random::Random;
-use crate::refusal::UNSOUND;
+use crate::refusal::NOT_SOUND;
 use crate::tables::builder::{draw, Table};
 use crate::tables::damage::DAMAGES;
 use crate::tables::library::{Lent, Library};
@@ -116,7 +116,7 @@ fn damaged(library: &Library) -> bool {
             let last = random.one_of(&[i32::MIN, -1, 0, 5, i32::MAX]);
             let answer = asked(library, &mut words, last, &mut random);
             family.count("not opened");
-            if opening != UNSOUND || answer != (0, NONE, true) || !words.untouched() {
+            if opening != NOT_SOUND || answer != (0, NONE, true) || !words.untouched() {
                 family.wrong(format!("{}: {opening}, {answer:?}", damage.name));
             }
         }

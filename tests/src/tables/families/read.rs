@@ -2,7 +2,7 @@
 
 use super::Family;
 use crate::random::Random;
-use crate::refusal::{NO_SUCH_CAPACITY, TABLE_TOO_SHORT};
+use crate::refusal::{BAD_CAPACITY, SHORT_TABLE};
 use crate::tables::builder::draw;
 use crate::tables::judge;
 use crate::tables::layout::*;
@@ -105,9 +105,9 @@ fn change(random: &mut Random, bytes: &mut Vec<u8>) {
 /// 2 and 3 as for a fresh table, then what is wrong with the sheet.
 fn expected(words: &[i32], capacity: i32, bytes: &[u8]) -> Result<Said, i32> {
     if !(1..=LARGEST).contains(&capacity) {
-        Err(NO_SUCH_CAPACITY)
+        Err(BAD_CAPACITY)
     } else if words.len() < words_for(capacity) {
-        Err(TABLE_TOO_SHORT)
+        Err(SHORT_TABLE)
     } else {
         said(bytes, capacity)
     }

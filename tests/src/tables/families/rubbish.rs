@@ -3,7 +3,7 @@
 
 use super::Family;
 use crate::random::Random;
-use crate::refusal::UNSOUND;
+use crate::refusal::NOT_SOUND;
 use crate::tables::builder::{draw, Table};
 use crate::tables::judge;
 use crate::tables::layout::*;
@@ -31,7 +31,7 @@ fn ask(library: &Library, table: &Table, words: &[i32], random: &mut Random, fam
     }
     let truth = truth(words, &asked);
     family.count(match truth {
-        Truth::Refused(UNSOUND) => "refused by 1",
+        Truth::Refused(NOT_SOUND) => "refused by 1",
         Truth::Refused(_) => "sound, refused by another number",
         Truth::Met { .. } => "sound, answered",
     });

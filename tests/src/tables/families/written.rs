@@ -3,7 +3,7 @@
 
 use super::Family;
 use crate::random::Random;
-use crate::refusal::{BYTES_TOO_SHORT, UNSOUND};
+use crate::refusal::{NOT_SOUND, SHORT_BYTES};
 use crate::tables::builder::{draw, Table};
 use crate::tables::damage::DAMAGES;
 use crate::tables::library::{Lent, Library, Written};
@@ -67,7 +67,7 @@ fn write(
     let mut bytes = Lent::of_bytes(random, &after);
     let expected = if length < sheet.len() {
         family.count("refused by 13");
-        Written { number: BYTES_TOO_SHORT, total: 0 }
+        Written { number: SHORT_BYTES, total: 0 }
     } else {
         family.count("written");
         after[..sheet.len()].copy_from_slice(sheet);
@@ -104,7 +104,7 @@ fn damaged(library: &Library) -> bool {
             let mut words = Lent::of(&mut random, &words);
             let written = (library.write)(words.words(), bytes.words());
             family.count("refused by 1");
-            let refusal = Written { number: UNSOUND, total: 0 };
+            let refusal = Written { number: NOT_SOUND, total: 0 };
             if written != refusal || !bytes.untouched() || !words.untouched() {
                 family.wrong(format!("{}: answered {written:?}, or wrote", damage.name));
             }

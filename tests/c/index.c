@@ -6,7 +6,7 @@
  */
 #include "lent.h"
 
-#include "calls.h"
+#include "bradawlet.h"
 
 #include <stdbool.h>
 #include <stdio.h>
@@ -137,7 +137,7 @@ static void check_queries(void)
     static const int32_t none[1] = {0}, at_11[2] = {9, INT32_MAX}, at_10[2] = {2, INT32_MAX};
     const size_t words = BRADAWLET_WORDS(CELLS) + EXTRA;
     const struct query whole = {10, 11, {-9, 9, -9, 9}, {-9, 9, -9, 9}};
-    const struct answer unsound = {BRADAWLET_UNSOUND, 0, 0};
+    const struct answer unsound = {BRADAWLET_NOT_SOUND, 0, 0};
     int32_t *table = rubbish(words);
 
     check_query("rubbish", table, words, PLACES, whole, unsound, none);
@@ -258,10 +258,10 @@ static void check_reads(const uint8_t two[BRADAWLET_SHEET(2)])
     check_read("a sheet read, words left", words + EXTRA, CELLS, two, total, BRADAWLET_DONE);
     check_read("as many cells as it is for", words, 2, two, total, BRADAWLET_DONE);
     check_read("9: a cell too many", words, 1, two, total, BRADAWLET_FULL);
-    check_read("2: no such capacity", words, 0, two, total, BRADAWLET_NO_SUCH_CAPACITY);
-    check_read("2 before 3", 0, 257, two, total, BRADAWLET_NO_SUCH_CAPACITY);
-    check_read("3: a word too few", words - 1, CELLS, two, total, BRADAWLET_TABLE_TOO_SHORT);
-    check_read("3 before 11", 0, CELLS, two, 0, BRADAWLET_TABLE_TOO_SHORT);
+    check_read("2: no such capacity", words, 0, two, total, BRADAWLET_BAD_CAPACITY);
+    check_read("2 before 3", 0, 257, two, total, BRADAWLET_BAD_CAPACITY);
+    check_read("3: a word too few", words - 1, CELLS, two, total, BRADAWLET_SHORT_TABLE);
+    check_read("3 before 11", 0, CELLS, two, 0, BRADAWLET_SHORT_TABLE);
     for (size_t length = 0; length < total; length++)
         check_read("11: bytes missing", words, CELLS, two, length, BRADAWLET_BAD_HEADER);
     memcpy(wrong, two, total);
@@ -296,18 +296,18 @@ static void check_sheets(void)
     const size_t words = BRADAWLET_WORDS(CELLS) + EXTRA;
     int32_t *table = rubbish(words);
 
-    check("1: rubbish not opened", bradawlet_open(table, words) == BRADAWLET_UNSOUND);
-    check_next("a step over rubbish", table, words, 0, 0, none);
-    check_write("1: rubbish", table, words, 16, BRADAWLET_UNSOUND, empty, 0);
-    check_write("1 before 13", table, words, 0, BRADAWLET_UNSOUND, empty, 0);
-    check_write("1: no words", table, 0, 16, BRADAWLET_UNSOUND, empty, 0);
+    check("1: rubbish not opened", bradawlet_open(table, words) == BRADAWLET_NOT_SOUND);
+    check_next("a step over rubbish", table, words, 0, BRADAWLET_NONE, none);
+    check_write("1: rubbish", table, words, 16, BRADAWLET_NOT_SOUND, empty, 0);
+    check_write("1 before 13", table, words, 0, BRADAWLET_NOT_SOUND, empty, 0);
+    check_write("1: no words", table, 0, 16, BRADAWLET_NOT_SOUND, empty, 0);
 
     check("a fresh table", bradawlet_fresh(table, words, CELLS) == BRADAWLET_DONE);
     check("a fresh table opened", bradawlet_open(table, words) == BRADAWLET_DONE);
-    check_next("no cell in a fresh table", table, words, 0, 0, none);
+    check_next("no cell in a fresh table", table, words, 0, BRADAWLET_NONE, none);
     for (size_t length = 0; length < 20; length++)
         check_write("a fresh table's sheet", table, words, length,
-                    length < 16 ? BRADAWLET_BYTES_TOO_SHORT : BRADAWLET_DONE, empty, 16);
+                    length < 16 ? BRADAWLET_SHORT_BYTES : BRADAWLET_DONE, empty, 16);
 
     put(table, late);
     put(table, expired);
@@ -315,13 +315,13 @@ static void check_sheets(void)
     table[1] = 10;
     for (size_t length = 0; length < 80; length++)
         check_write("two live cells", table, words, length,
-                    length < 64 ? BRADAWLET_BYTES_TOO_SHORT : BRADAWLET_DONE, two, 64);
-    check_next("the first cell", table, words, 0, 1, early);
-    check_next("the first from below 0", table, words, INT32_MIN, 1, early);
-    check_next("the second cell", table, words, 2, 1, late);
-    check_next("past the expired cell", table, words, 5, 1, late);
-    check_next("the last cell once more", table, words, INT32_MAX - 1, 1, late);
-    check_next("no more", table, words, INT32_MAX, 0, none);
+                    length < 64 ? BRADAWLET_SHORT_BYTES : BRADAWLET_DONE, two, 64);
+    check_next("the first cell", table, words, 0, BRADAWLET_ONE, early);
+    check_next("the first from below 0", table, words, INT32_MIN, BRADAWLET_ONE, early);
+    check_next("the second cell", table, words, 2, BRADAWLET_ONE, late);
+    check_next("past the expired cell", table, words, 5, BRADAWLET_ONE, late);
+    check_next("the last cell once more", table, words, INT32_MAX - 1, BRADAWLET_ONE, late);
+    check_next("no more", table, words, INT32_MAX, BRADAWLET_NONE, none);
     give_back(table);
     check_reads(two);
 }
@@ -408,7 +408,7 @@ static void check_full(void)
     check_drop("8: not held", table, words, 50, 20, BRADAWLET_NOT_LIVE);
     check_drop("4: no identifier", table, words, 0, 20, BRADAWLET_OUT_OF_RANGE);
     check_drop("4: no minute", table, words, 1, 1441, BRADAWLET_OUT_OF_RANGE);
-    check_drop("5: before the clock", table, words, 50, 19, BRADAWLET_TOO_EARLY);
+    check_drop("5: before the clock", table, words, 50, 19, BRADAWLET_BEFORE_CLOCK);
     check_drop("dropped", table, words, 1, 20, 0);
     check_drop("8: dropped before", table, words, 1, 20, BRADAWLET_NOT_LIVE);
     check_report("in its room", table, words, other, 0);
@@ -420,7 +420,42 @@ static void check_full(void)
     check_drop("8: expired", table, words, 2, 31, BRADAWLET_NOT_LIVE);
     table[16 + 96 * table[2]] = 9;
     check_report("1 before 4", table, words, (int32_t[7]){0, 0, 0, 0, 0, 31, 31}, 1);
-    check_drop("1: nine entries", table, words, 3, 31, BRADAWLET_UNSOUND);
+    check_drop("1: nine entries", table, words, 3, 31, BRADAWLET_NOT_SOUND);
+    give_back(table);
+}
+
+/* No words, no list and no bytes may be null. */
+static void check_null(void)
+{
+    static const int32_t none[BRADAWLET_RECORD];
+    static const struct query whole = {0, 9, {-9, 9, -9, 9}, {-9, 9, -9, 9}};
+    const size_t words = BRADAWLET_WORDS(CELLS);
+    int32_t *table = rubbish(words), *total = rubbish(1);
+
+    check("2: fresh in no words", bradawlet_fresh(NULL, 0, 0) == BRADAWLET_BAD_CAPACITY);
+    check("3: fresh in no words", bradawlet_fresh(NULL, 0, 1) == BRADAWLET_SHORT_TABLE);
+    check("1: a report to no words",
+          bradawlet_report(NULL, 0, 1, 0, 0, 0, 0, 0, 9) == BRADAWLET_NOT_SOUND);
+    check("1: a drop from no words", bradawlet_drop(NULL, 0, 1, 0) == BRADAWLET_NOT_SOUND);
+    check("1: a window of no words", is(window(NULL, 0, NULL, 0, whole), 1, 0, 0));
+    check("1: a moving query of no words", is(moving(NULL, 0, NULL, 0, whole), 1, 0, 0));
+    check("1: no words opened", bradawlet_open(NULL, 0) == BRADAWLET_NOT_SOUND);
+    check_next("a step over no words", NULL, 0, 0, BRADAWLET_NONE, none);
+    check("1: no words written",
+          bradawlet_write(NULL, 0, NULL, 0, total) == BRADAWLET_NOT_SOUND && *total == 0);
+    check("3: read into no words", bradawlet_read(NULL, 0, 1, NULL, 0) == BRADAWLET_SHORT_TABLE);
+    check("11: no bytes read",
+          bradawlet_read(table, words, CELLS, NULL, 0) == BRADAWLET_BAD_HEADER && all_rubbish(table, words));
+
+    check("a fresh table", bradawlet_fresh(table, words, CELLS) == BRADAWLET_DONE);
+    check("no hits for no list", is(window(table, words, NULL, 0, whole), 0, 0, 1));
+    check("no hits for no list", is(moving(table, words, NULL, 0, whole), 0, 0, 1));
+    check("a cell", bradawlet_report(table, words, 1, 0, 0, 0, 0, 0, 9) == BRADAWLET_DONE);
+    check("10: a hit for no list", is(window(table, words, NULL, 0, whole), 10, 1, 0));
+    check("10: a hit for no list", is(moving(table, words, NULL, 0, whole), 10, 1, 0));
+    check("13: written to no bytes",
+          bradawlet_write(table, words, NULL, 0, total) == BRADAWLET_SHORT_BYTES && *total == 0);
+    give_back(total);
     give_back(table);
 }
 
@@ -429,18 +464,18 @@ static void check_capacities(void)
     static const int32_t capacities[] = {1, 2, 3, CELLS, 255, 256};
     for (size_t i = 0; i < sizeof capacities / sizeof capacities[0]; i++) {
         size_t need = BRADAWLET_WORDS(capacities[i]);
-        check_fresh(capacities[i], need - 1, BRADAWLET_TABLE_TOO_SHORT);
+        check_fresh(capacities[i], need - 1, BRADAWLET_SHORT_TABLE);
         check_fresh(capacities[i], need, BRADAWLET_DONE);
         check_fresh(capacities[i], need + EXTRA, BRADAWLET_DONE);
     }
-    check_fresh(256, 12399, BRADAWLET_TABLE_TOO_SHORT);
+    check_fresh(256, 12399, BRADAWLET_SHORT_TABLE);
     check_fresh(256, 12400, BRADAWLET_DONE);
-    check_fresh(1, 0, BRADAWLET_TABLE_TOO_SHORT);
-    check_fresh(0, 0, BRADAWLET_NO_SUCH_CAPACITY);
-    check_fresh(0, 112, BRADAWLET_NO_SUCH_CAPACITY);
-    check_fresh(257, BRADAWLET_WORDS(257), BRADAWLET_NO_SUCH_CAPACITY);
-    check_fresh(INT32_MIN, 112, BRADAWLET_NO_SUCH_CAPACITY);
-    check_fresh(INT32_MAX, 12400, BRADAWLET_NO_SUCH_CAPACITY);
+    check_fresh(1, 0, BRADAWLET_SHORT_TABLE);
+    check_fresh(0, 0, BRADAWLET_BAD_CAPACITY);
+    check_fresh(0, 112, BRADAWLET_BAD_CAPACITY);
+    check_fresh(257, BRADAWLET_WORDS(257), BRADAWLET_BAD_CAPACITY);
+    check_fresh(INT32_MIN, 112, BRADAWLET_BAD_CAPACITY);
+    check_fresh(INT32_MAX, 12400, BRADAWLET_BAD_CAPACITY);
 }
 
 int main(void)
@@ -448,6 +483,7 @@ int main(void)
     /* A failure is printed even if the library or the sanitizer ends the program after it. */
     setvbuf(stdout, NULL, _IOLBF, BUFSIZ);
     for (lent_side = 0; lent_side < LENT_SIDES; lent_side++) {
+        check_null();
         check_capacities();
         check_queries();
         check_sheets();

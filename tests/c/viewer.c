@@ -6,7 +6,7 @@
  */
 #include "lent.h"
 
-#include "bradawlet.h"
+#include "bradawlet_viewer.h"
 
 #include <stdbool.h>
 #include <stddef.h>
@@ -230,10 +230,10 @@ static void give_reason(struct call *call, int32_t refusal)
     case BRADAWLET_OUT_OF_RANGE:
         v[YHIGH] = ranges[YHIGH].greatest + 1;
         break;
-    case BRADAWLET_TOO_EARLY:
+    case BRADAWLET_BEFORE_CLOCK:
         v[START] = v[MINUTE] - 1;
         break;
-    case BRADAWLET_EXPIRED_AT_REPORT:
+    case BRADAWLET_EXPIRES_FIRST:
         v[EXPIRY] = v[MINUTE] - 1;
         break;
     case BRADAWLET_BACKWARD:
@@ -461,6 +461,7 @@ int main(void)
     check_all_arguments_at(" at INT32_MIN", INT32_MIN);
     check_all_arguments_at(" at INT32_MAX", INT32_MAX);
     check_order();
+    check_bytes("no bytes", " at null", NULL, 0, BRADAWLET_BAD_HEADER);
     for (lent_side = 0; lent_side < LENT_SIDES; lent_side++)
         check_sheets();
     printf("%u passed, %u failed\n", passed, failed);

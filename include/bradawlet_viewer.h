@@ -1,13 +1,20 @@
 /*
- * Bradawlet: does the straight track of a storm cell meet a window, and are
- * bytes a well-formed sheet of cells?
+ * Bradawlet, the viewer's part: does the straight track of a storm cell meet a
+ * window, and are bytes a well-formed sheet of cells?
  *
- * Link with libviewer.a. It needs no other library, keeps no state, allocates
- * nothing and takes any numbers and any bytes at all: what it cannot answer it
- * refuses by number.
+ * Link with libbradawlet_viewer.a, or with libbradawlet.a, which has these two
+ * calls as well, or with both, in either order. bradawlet.h, the header of all
+ * the calls, includes this one. docs/MANUAL.md has the rules.
+ *
+ * The library needs no other, not even C's. It keeps no state, allocates
+ * nothing, takes any numbers and any bytes at all, and takes at most
+ * BRADAWLET_VIEWER_STACK bytes of stack. What it cannot answer it refuses by
+ * number.
  */
-#ifndef BRADAWLET_H
-#define BRADAWLET_H
+#ifndef BRADAWLET_VIEWER_H
+#define BRADAWLET_VIEWER_H
+
+#include "bradawlet_refusals.h"
 
 #include <stddef.h>
 #include <stdint.h>
@@ -16,25 +23,16 @@
 extern "C" {
 #endif
 
-/* The answers of bradawlet_meets, and of bradawlet_sheet: 1, 11 and 12. */
+/* The stack that a call takes at the most, in bytes: at most three
+   times what was measured. */
+#define BRADAWLET_VIEWER_STACK 256
+
+/* What a test answers when it does not refuse. Any other number is one of enum
+   bradawlet_refusal: compare with BRADAWLET_YES and BRADAWLET_NO, and do not
+   take the result for a truth value. */
 enum bradawlet_answer {
-    /* The track does not meet the window. */
     BRADAWLET_NO = 0,
-    /* The track meets the window; the sheet is well formed. */
-    BRADAWLET_YES = 1,
-    /* Refused: an argument is outside its range. */
-    BRADAWLET_OUT_OF_RANGE = 4,
-    /* Refused: the window starts before the report's minute. */
-    BRADAWLET_TOO_EARLY = 5,
-    /* Refused: the report's expiry is before its minute. */
-    BRADAWLET_EXPIRED_AT_REPORT = 6,
-    /* Refused: the window ends before it starts, or a low edge is above its
-       high edge. */
-    BRADAWLET_BACKWARD = 7,
-    /* Refused: the sheet's header is wrong. */
-    BRADAWLET_BAD_HEADER = 11,
-    /* Refused: a record of the sheet is wrong. */
-    BRADAWLET_BAD_RECORD = 12
+    BRADAWLET_YES = 1
 };
 
 /*
@@ -61,11 +59,14 @@ enum bradawlet_answer {
  * The answer is BRADAWLET_YES exactly when at one instant, from start to end
  * and not after expiry, x and y both lie within the rectangle. Instants between
  * whole minutes count, and so do the edges, the start, the end and the expiry.
+ * It is BRADAWLET_NO exactly when there is no such instant. Or it is a refusal,
+ * for the first of these reasons that holds:
  *
- * It is a refusal, 4 to 7, exactly when one of the reasons listed with
- * enum bradawlet_answer holds, and the one with the least number where several
- * do. A refusal is not a "no": compare with BRADAWLET_YES and BRADAWLET_NO, and
- * do not take the result for a truth value.
+ *   BRADAWLET_OUT_OF_RANGE    an argument is outside its range
+ *   BRADAWLET_BEFORE_CLOCK    start is before minute
+ *   BRADAWLET_EXPIRES_FIRST   expiry is before minute
+ *   BRADAWLET_BACKWARD        end is before start, or a low edge is above its
+ *                             high edge
  */
 int32_t bradawlet_meets(int32_t id, int32_t x, int32_t y, int32_t vx, int32_t vy,
                         int32_t minute, int32_t expiry, int32_t start, int32_t end,
@@ -73,6 +74,9 @@ int32_t bradawlet_meets(int32_t id, int32_t x, int32_t y, int32_t vx, int32_t vy
 
 /*
  * Says whether bytes are a well-formed sheet.
+ *
+ *   bytes    the sheet; it may be null where length is 0
+ *   length   how many bytes there are
  *
  * A sheet is made of little-endian words of 32 bits, two's complement. Its
  * header has four:
@@ -88,13 +92,13 @@ int32_t bradawlet_meets(int32_t id, int32_t x, int32_t y, int32_t vx, int32_t vy
  *   expiry   the last minute for which its track
  *            can be trusted                        clock to 1440
  *
- * bytes points to length bytes, and is not null, not even where length is 0.
+ * The answer is BRADAWLET_YES, and never BRADAWLET_NO. Or it is a refusal, for
+ * the first of these reasons that holds:
  *
- * The answer is BRADAWLET_BAD_HEADER exactly when there are fewer than 16 bytes,
- * a number of the header is not as above, or total is not length. Else it is
- * BRADAWLET_BAD_RECORD exactly when a number of a record is not as above or an
- * identifier is not greater than the one before. Else it is BRADAWLET_YES: it is
- * never 0.
+ *   BRADAWLET_BAD_HEADER      there are fewer than 16 bytes, a number of the
+ *                             header is not as above, or total is not length
+ *   BRADAWLET_BAD_RECORD      a number of a record is not as above, or an
+ *                             identifier is not greater than the one before
  */
 int32_t bradawlet_sheet(const uint8_t *bytes, size_t length);
 

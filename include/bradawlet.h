@@ -1,0 +1,337 @@
+/*
+ * Bradawlet: an index of moving storm cells, kept in a table of words that the
+ * caller lends.
+ *
+ * Link with libbradawlet.a. It has every call that is declared here, and those
+ * of bradawlet_viewer.h, which this header includes. docs/MANUAL.md has the
+ * rules, examples/ has whole programs.
+ *
+ * Every call takes any numbers, and any words and bytes in what it is lent: what
+ * it cannot answer it refuses by number (enum bradawlet_refusal). Look at the
+ * result before anything else that a call gives back.
+ *
+ * What a caller must keep:
+ *
+ *   Size     A table, a list and bytes are memory of as many words or bytes as is
+ *            said, aligned as C asks. The single numbers that are given back, and
+ *            the BRADAWLET_RECORD numbers of a cell, are memory for just these.
+ *   Null     A table, a list or bytes may be null where the number beside it is 0.
+ *            No other pointer may be null.
+ *   Apart    What a call writes must be apart from all else that it is lent; the
+ *            pointers that this is asked of are marked BRADAWLET_RESTRICT.
+ *   Alone    Nothing else may write to what is lent, and nothing else may read
+ *            what a call writes, until the call returns. Calls keep no state, so
+ *            they may run at once on different tables, and those that do not
+ *            change the table on the same one.
+ *   Stack    A call takes at most BRADAWLET_STACK bytes of stack on a sound table,
+ *            and at most BRADAWLET_STACK_ANY_WORDS on any words.
+ *
+ * The library allocates nothing and needs memset of the C library, and nothing
+ * else of it or of any other.
+ */
+#ifndef BRADAWLET_H
+#define BRADAWLET_H
+
+#include "bradawlet_refusals.h"
+#include "bradawlet_viewer.h"
+
+#include <stddef.h>
+#include <stdint.h>
+
+/* C++ has no such word, but its compilers have one of their own. */
+#if defined(__cplusplus)
+#if defined(__GNUC__)
+#define BRADAWLET_RESTRICT __restrict__
+#else
+#define BRADAWLET_RESTRICT
+#endif
+#else
+#define BRADAWLET_RESTRICT restrict
+#endif
+
+#ifdef __cplusplus
+extern "C" {
+#endif
+
+/* The version of the calls. */
+#define BRADAWLET_VERSION_MAJOR 0
+#define BRADAWLET_VERSION_MINOR 1
+#define BRADAWLET_VERSION_PATCH 0
+#define BRADAWLET_VERSION "0.1.0"
+
+/* The version of a table's layout. Tables of one layout can be kept over an
+   upgrade of the library; where this number changes they cannot, and nothing in
+   a table says which it is: keep the number beside a table that is stored. A
+   sheet has no need of that. */
+#define BRADAWLET_LAYOUT 1
+
+/* The most cells that a table can be for. */
+#define BRADAWLET_MOST_CELLS 256
+
+/* The words that a table for so many cells needs, from 1 to 256. */
+#define BRADAWLET_WORDS(cells) ((size_t)16 + (size_t)96 * ((size_t)(cells) / 2 + 1))
+
+/* The bytes of a sheet with so many cells, from 0 to 256. */
+#define BRADAWLET_SHEET(cells) ((size_t)16 + (size_t)24 * (size_t)(cells))
+
+/* The numbers of a cell: identifier, x, x velocity, y, y velocity and expiry, with
+   x and y as they were at minute 0. */
+#define BRADAWLET_RECORD 6
+
+/* The stack that a call takes at the most, in bytes, on a sound table, and on any
+   words: at most three times what was measured. */
+#define BRADAWLET_STACK 16384
+#define BRADAWLET_STACK_ANY_WORDS 98304
+
+/* What an accepted call on a table gives: no refusal. */
+enum bradawlet_accepted {
+    BRADAWLET_DONE = 0
+};
+
+/* What a step of the leafing gives: it is never refused. */
+enum bradawlet_step {
+    BRADAWLET_NONE = 0,
+    BRADAWLET_ONE = 1
+};
+
+/*
+ * Makes a fresh table: clock 0 and no cells.
+ *
+ *   table    any words; what they held is lost
+ *   words    how many are lent
+ *   cells    the most that the table is to hold    1 to 256
+ *
+ * The answer is BRADAWLET_DONE, or a refusal, for the first of these reasons that
+ * holds:
+ *
+ *   BRADAWLET_BAD_CAPACITY   cells is outside its range
+ *   BRADAWLET_SHORT_TABLE    words is below BRADAWLET_WORDS(cells)
+ *
+ * Words past BRADAWLET_WORDS(cells) are not touched, and a refusal touches none.
+ */
+int32_t bradawlet_fresh(int32_t *table, size_t words, int32_t cells);
+
+/*
+ * Puts a cell in, in the place of a live one of the same identifier, and sets
+ * the table's clock to the report's minute.
+ *
+ *   table    the table; it may hold any words
+ *   words    how many words are lent
+ *   id       the cell's identifier                 1 to 2147483647
+ *   x, y     where it is at the report's minute    -100000 to 100000 each
+ *   vx, vy   how it moves from there               -512 to 512 each
+ *   minute   when it is reported                   0 to 1440
+ *   expiry   the last minute for which its track
+ *            can be trusted                        0 to 1440
+ *
+ * A cell is live as long as its expiry is not before the clock. The expired
+ * ones count as absent, whether or not the table still holds them: their room
+ * is used again, and no query finds them.
+ *
+ * The answer is BRADAWLET_DONE: then the reported cell is live, and so are all
+ * others that are not expired at its minute. Or it is a refusal, for the first
+ * of these reasons that holds:
+ *
+ *   BRADAWLET_NOT_SOUND       the words are not a sound table
+ *   BRADAWLET_OUT_OF_RANGE    an argument is outside its range
+ *   BRADAWLET_BEFORE_CLOCK    minute is before the table's clock
+ *   BRADAWLET_EXPIRES_FIRST   expiry is before minute
+ *   BRADAWLET_FULL            as many cells as the table is for, this one not
+ *                             counted, are live at the minute
+ *
+ * Words past the number that the table needs are not touched, and a refusal
+ * touches none.
+ */
+int32_t bradawlet_report(int32_t *table, size_t words, int32_t id, int32_t x, int32_t y,
+                         int32_t vx, int32_t vy, int32_t minute, int32_t expiry);
+
+/*
+ * Takes a live cell out, and sets the table's clock to the drop's minute.
+ *
+ *   table    the table; it may hold any words
+ *   words    how many words are lent
+ *   id       the cell's identifier                 1 to 2147483647
+ *   minute   when it is dropped                    0 to 1440
+ *
+ * The answer is BRADAWLET_DONE: then all other cells that are not expired at
+ * the minute are live. Or it is a refusal, for the first of these reasons that
+ * holds:
+ *
+ *   BRADAWLET_NOT_SOUND      the words are not a sound table
+ *   BRADAWLET_OUT_OF_RANGE   an argument is outside its range
+ *   BRADAWLET_BEFORE_CLOCK   minute is before the table's clock
+ *   BRADAWLET_NOT_LIVE       no cell of this identifier is live at the minute
+ *
+ * Words past the number that the table needs are not touched, and a refusal
+ * touches none.
+ */
+int32_t bradawlet_drop(int32_t *table, size_t words, int32_t id, int32_t minute);
+
+/*
+ * Lists the cells that meet a window.
+ *
+ *   table    the table, which is not changed; it may hold any words
+ *   words    how many words are lent
+ *   list     where the identifiers go
+ *   places   how many there is room for; 0 will do for a question of how many
+ *   start    the first minute asked about          0 to 1440
+ *   end      the last minute asked about           0 to 1440
+ *            (equal to start: that instant alone)
+ *   xlow, xhigh, ylow, yhigh
+ *            the edges of the rectangle            -100000 to 100000 each
+ *   hits     gives how many cells meet the window
+ *   opened   gives how many nodes of the tree were opened to find them
+ *
+ * A cell meets the window exactly when at one instant, from start to end and
+ * not after the cell's expiry, x and y both lie within the rectangle. Instants
+ * between whole minutes count, and so do the edges, the start, the end and the
+ * expiry.
+ *
+ * The answer is BRADAWLET_DONE, and then the first places of the list, as many
+ * as there are hits, have the identifiers of these cells in rising order; the
+ * other places are not touched. Or it is a refusal, for the first of these
+ * reasons that holds:
+ *
+ *   BRADAWLET_NOT_SOUND      the words are not a sound table
+ *   BRADAWLET_OUT_OF_RANGE   an argument is outside its range
+ *   BRADAWLET_BEFORE_CLOCK   start is before the table's clock
+ *   BRADAWLET_BACKWARD       end is before start, or a low edge is above its
+ *                            high edge
+ *   BRADAWLET_SHORT_LIST     there are more hits than places
+ *
+ * A refusal leaves the list as it was and gives 0 in hits and in opened, but
+ * BRADAWLET_SHORT_LIST gives the number of hits. A refusal is not an empty list:
+ * look at the answer before hits.
+ */
+int32_t bradawlet_window(const int32_t *BRADAWLET_RESTRICT table, size_t words,
+                         int32_t *BRADAWLET_RESTRICT list, size_t places, int32_t start, int32_t end,
+                         int32_t xlow, int32_t xhigh, int32_t ylow, int32_t yhigh,
+                         int32_t *BRADAWLET_RESTRICT hits, int32_t *BRADAWLET_RESTRICT opened);
+
+/*
+ * Lists the cells that meet a moving query: a rectangle that goes straight from
+ * the first, at start, to the second, at end.
+ *
+ *   xlow, xhigh, ylow, yhigh
+ *            the edges at start                    -100000 to 100000 each
+ *   xlow2, xhigh2, ylow2, yhigh2
+ *            the edges at end                      -100000 to 100000 each
+ *
+ * All else is as with bradawlet_window, and BRADAWLET_BACKWARD is given also
+ * when start equals end and when a low edge of the second rectangle is above
+ * its high edge. Between start and end the edges stand at fractions of a unit,
+ * and those count as well.
+ */
+int32_t bradawlet_moving(const int32_t *BRADAWLET_RESTRICT table, size_t words,
+                         int32_t *BRADAWLET_RESTRICT list, size_t places, int32_t start, int32_t end,
+                         int32_t xlow, int32_t xhigh, int32_t ylow, int32_t yhigh,
+                         int32_t xlow2, int32_t xhigh2, int32_t ylow2, int32_t yhigh2,
+                         int32_t *BRADAWLET_RESTRICT hits, int32_t *BRADAWLET_RESTRICT opened);
+
+/*
+ * Says whether a table can be leafed through. Ask it first: it alone tells a
+ * table without live cells from words that are no table.
+ *
+ *   table    the table, which is not changed; it may hold any words
+ *   words    how many words are lent
+ *
+ * The answer is BRADAWLET_DONE, or BRADAWLET_NOT_SOUND if the words are not a
+ * sound table.
+ */
+int32_t bradawlet_open(const int32_t *table, size_t words);
+
+/*
+ * Gives the live cell with the least identifier above last: a step of a leafing
+ * through the live cells by rising identifier.
+ *
+ *   table    the table, which is not changed; it may hold any words
+ *   words    how many words are lent
+ *   last     0 for the first cell, then the identifier that was given last; it
+ *            may be any number
+ *   numbers  gives the BRADAWLET_RECORD numbers of the cell
+ *
+ * The answer is BRADAWLET_ONE. Or it is BRADAWLET_NONE, and the numbers are 0: no
+ * more are left, or the words are not a sound table. So it is an answer only
+ * after bradawlet_open gave BRADAWLET_DONE.
+ */
+int32_t bradawlet_next(const int32_t *BRADAWLET_RESTRICT table, size_t words, int32_t last,
+                       int32_t *BRADAWLET_RESTRICT numbers);
+
+/*
+ * Writes the sheet of a table: its clock and its live cells, those whose expiry
+ * is not before the clock, by rising identifier. bradawlet_viewer.h says what a
+ * sheet's bytes are, with bradawlet_sheet.
+ *
+ *   table    the table, which is not changed; it may hold any words
+ *   words    how many words are lent
+ *   bytes    where the sheet goes
+ *   length   how many bytes there is room for
+ *   total    gives how many bytes the sheet has
+ *
+ * The answer is BRADAWLET_DONE, and then the first bytes, as many as the total,
+ * are the sheet; the others are not touched. Or it is a refusal, for the first of
+ * these reasons that holds:
+ *
+ *   BRADAWLET_NOT_SOUND     the words are not a sound table
+ *   BRADAWLET_SHORT_BYTES   the sheet is longer than the bytes
+ *
+ * Then no byte is touched and the total is 0. BRADAWLET_SHEET(256) bytes are
+ * enough for any table.
+ */
+int32_t bradawlet_write(const int32_t *BRADAWLET_RESTRICT table, size_t words,
+                        uint8_t *BRADAWLET_RESTRICT bytes, size_t length,
+                        int32_t *BRADAWLET_RESTRICT total);
+
+/*
+ * Reads a sheet: the words become a table for so many cells that holds the
+ * sheet's cells, with the sheet's clock.
+ *
+ *   table    any words; what they held is lost
+ *   words    how many are lent
+ *   cells    the most that the table is to hold    1 to 256
+ *   bytes    the sheet, just as long as it says
+ *   length   how many bytes there are
+ *
+ * The answer is BRADAWLET_DONE, or a refusal, for the first of these reasons that
+ * holds:
+ *
+ *   BRADAWLET_BAD_CAPACITY   cells is outside its range
+ *   BRADAWLET_SHORT_TABLE    words is below BRADAWLET_WORDS(cells)
+ *   BRADAWLET_BAD_HEADER     as with bradawlet_sheet
+ *   BRADAWLET_FULL           the sheet has more cells than the table is to hold
+ *   BRADAWLET_BAD_RECORD     as with bradawlet_sheet
+ *
+ * Words past BRADAWLET_WORDS(cells) are not touched, and a refusal touches none.
+ */
+int32_t bradawlet_read(int32_t *BRADAWLET_RESTRICT table, size_t words, int32_t cells,
+                       const uint8_t *BRADAWLET_RESTRICT bytes, size_t length);
+
+/*
+ * Says whether a reported cell meets a moving query: a rectangle that goes
+ * straight from the first, at start, to the second, at end.
+ *
+ * The report and its units and ranges are those of bradawlet_meets.
+ *
+ * The query:
+ *   start    the first minute asked about          0 to 1440
+ *   end      the last minute asked about           0 to 1440
+ *   xlow, xhigh, ylow, yhigh
+ *            the edges at start                    -100000 to 100000 each
+ *   xlow2, xhigh2, ylow2, yhigh2
+ *            the edges at end                      -100000 to 100000 each
+ *
+ * The answers are those of bradawlet_meets, with the query in place of the
+ * window, and BRADAWLET_BACKWARD is given also when start equals end and when
+ * a low edge of the second rectangle is above its high edge. Between start and
+ * end the edges stand at fractions of a unit, and those count as well.
+ */
+int32_t bradawlet_meets_moving(int32_t id, int32_t x, int32_t y, int32_t vx, int32_t vy,
+                               int32_t minute, int32_t expiry, int32_t start, int32_t end,
+                               int32_t xlow, int32_t xhigh, int32_t ylow, int32_t yhigh,
+                               int32_t xlow2, int32_t xhigh2, int32_t ylow2, int32_t yhigh2);
+
+#ifdef __cplusplus
+}
+#endif
+
+#endif

@@ -1,0 +1,32 @@
+//! How much memory a table and a sheet need.
+
+/// The most cells that a table can be for.
+pub const MOST_CELLS: usize = 256;
+
+/// The version of the layout of a table's words. Words that were kept from another version of this crate are
+/// a table for this one only if the two agree here.
+pub const LAYOUT: i32 = 1;
+
+/// The words that a table for so many cells needs, from 1 to 256: 16 + 96 × (cells / 2 rounded down + 1). It
+/// can be the length of an array.
+///
+/// ```
+/// use bradawlet::{words_for, Table};
+///
+/// let words = [0; words_for(40)];
+/// assert_eq!(words.len(), 2032);
+/// assert!(Table::fresh(words, 40).is_ok());
+/// ```
+pub const fn words_for(cells: usize) -> usize {
+    (cells / 2 + 1).saturating_mul(96).saturating_add(16)
+}
+
+/// The bytes of a sheet with so many cells, from 0 to 256: 16 + 24 × cells.
+///
+/// ```
+/// assert_eq!(bradawlet::sheet_length(0), 16);
+/// assert_eq!(bradawlet::sheet_length(bradawlet::MOST_CELLS), 6160);
+/// ```
+pub const fn sheet_length(cells: usize) -> usize {
+    cells.saturating_mul(24).saturating_add(16)
+}
