@@ -5,10 +5,10 @@
  * Prints a line for each check that fails, and last the counts.
  */
 #include "lent.h"
+#include "tally.h"
 
 #include "bradawlet.h"
 
-#include <stdbool.h>
 #include <stdio.h>
 #include <string.h>
 
@@ -23,18 +23,6 @@ struct query {
     int32_t start, end;
     int32_t first[4], last[4];
 };
-
-static unsigned passed, failed;
-
-static void check(const char *name, bool holds)
-{
-    if (holds) {
-        passed++;
-        return;
-    }
-    failed++;
-    printf("FAILED %s\n", name);
-}
 
 static int32_t *rubbish(size_t words)
 {
@@ -490,6 +478,5 @@ int main(void)
         check_desk_run();
         check_full();
     }
-    printf("%u passed, %u failed\n", passed, failed);
-    return failed != 0;
+    return verdict();
 }

@@ -3,27 +3,15 @@
  * compiled as C and as C++, and linked with the larger library, and with both in
  * either order.
  */
+#include "tally.h"
+
 #include "bradawlet.h"
 
-#include <stdio.h>
-
 enum { CELLS = 4 };
-
-static unsigned passed, failed;
 
 static int32_t table[BRADAWLET_WORDS(CELLS)], list[CELLS], cell[BRADAWLET_RECORD], hits, opened, total;
 static uint8_t bytes[BRADAWLET_SHEET(CELLS)];
 static const size_t words = BRADAWLET_WORDS(CELLS);
-
-static void check(const char *name, int holds)
-{
-    if (holds) {
-        passed++;
-        return;
-    }
-    failed++;
-    printf("FAILED %s\n", name);
-}
 
 static void check_tables(void)
 {
@@ -52,6 +40,5 @@ int main(void)
     check("meets", bradawlet_meets(1, 0, 0, 3, 3, 0, 40, 0, 1, 1, 1, 1, 1) == BRADAWLET_YES);
     check("meets_moving", bradawlet_meets_moving(1, 3, 0, 2, 0, 0, 40, 0, 10, 0, 2, 0, 0, 20, 22, 0, 0) ==
                               BRADAWLET_NO);
-    printf("%u passed, %u failed\n", passed, failed);
-    return failed != 0;
+    return verdict();
 }

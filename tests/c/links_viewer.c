@@ -2,21 +2,9 @@
  * Refers to every call of bradawlet_viewer.h and makes each once. It is compiled as C
  * and as C++, and linked with the smaller library, with the larger, and with both.
  */
+#include "tally.h"
+
 #include "bradawlet_viewer.h"
-
-#include <stdio.h>
-
-static unsigned passed, failed;
-
-static void check(const char *name, int holds)
-{
-    if (holds) {
-        passed++;
-        return;
-    }
-    failed++;
-    printf("FAILED %s\n", name);
-}
 
 int main(void)
 {
@@ -25,6 +13,5 @@ int main(void)
     check("meets", bradawlet_meets(1, 0, 0, 1, 2, 0, 40, 0, 5, 2, 3, 2, 3) == BRADAWLET_NO);
     check("meets", bradawlet_meets(1, 0, 0, 3, 3, 0, 40, 1, 0, 1, 1, 1, 1) == BRADAWLET_BACKWARD);
     check("sheet", bradawlet_sheet(sheet, sizeof sheet) == BRADAWLET_YES);
-    printf("%u passed, %u failed\n", passed, failed);
-    return failed != 0;
+    return verdict();
 }

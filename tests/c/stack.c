@@ -6,10 +6,10 @@
  * Prints what each call took, a line for each check that fails, and last the counts.
  */
 #define _GNU_SOURCE
+#include "tally.h"
+
 #include "bradawlet.h"
 
-#include <stdbool.h>
-#include <stdio.h>
 #include <stdlib.h>
 #include <string.h>
 #include <sys/mman.h>
@@ -17,22 +17,10 @@
 
 enum { CELLS = BRADAWLET_MOST_CELLS, STACK = 1 << 20, PAINT = 0x6b, HEADER = 16, NODE = 96 };
 
-static unsigned passed, failed;
-
 static int32_t table[BRADAWLET_WORDS(CELLS)], other[BRADAWLET_WORDS(CELLS)];
 static int32_t list[CELLS], numbers[BRADAWLET_RECORD], hits, opened, total;
 static uint8_t bytes[BRADAWLET_SHEET(CELLS)];
 static const size_t words = BRADAWLET_WORDS(CELLS);
-
-static void check(const char *name, bool holds)
-{
-    if (holds) {
-        passed++;
-        return;
-    }
-    failed++;
-    printf("FAILED %s\n", name);
-}
 
 static void call_nothing(void)
 {
@@ -199,6 +187,5 @@ int main(void)
     chain();
     measure_all();
     check_greatest("BRADAWLET_STACK_ANY_WORDS", BRADAWLET_STACK_ANY_WORDS);
-    printf("%u passed, %u failed\n", passed, failed);
-    return failed != 0;
+    return verdict();
 }

@@ -5,10 +5,10 @@
  * that fails, and last the counts.
  */
 #include "lent.h"
+#include "tally.h"
 
 #include "bradawlet_viewer.h"
 
-#include <stdbool.h>
 #include <stddef.h>
 #include <stdio.h>
 
@@ -34,8 +34,6 @@ struct range {
     int32_t least, greatest;
     int32_t answer_at_least, answer_at_greatest;
 };
-
-static unsigned passed, failed;
 
 static const struct call plain = {{5, 0, 0, 1, 1, 10, 40, 20, 30, -50, 50, -50, 50}};
 
@@ -202,7 +200,7 @@ static int32_t ask(const struct call *call)
                            v[XLOW], v[XHIGH], v[YLOW], v[YHIGH]);
 }
 
-static void check(const char *name, const char *detail, const struct call *call, int32_t expected)
+static void check_call(const char *name, const char *detail, const struct call *call, int32_t expected)
 {
     int32_t answer = ask(call);
     if (answer == expected) {
@@ -249,8 +247,8 @@ static void check_outside(enum argument argument, const char *detail, int32_t va
     for (int32_t refusal = 5; refusal <= 7; refusal++)
         give_reason(&among_others, refusal);
     among_others.value[argument] = value;
-    check(ranges[argument].name, detail, &alone, BRADAWLET_OUT_OF_RANGE);
-    check(ranges[argument].name, detail, &among_others, BRADAWLET_OUT_OF_RANGE);
+    check_call(ranges[argument].name, detail, &alone, BRADAWLET_OUT_OF_RANGE);
+    check_call(ranges[argument].name, detail, &among_others, BRADAWLET_OUT_OF_RANGE);
 }
 
 static void check_range(enum argument argument)
@@ -258,8 +256,8 @@ static void check_range(enum argument argument)
     const struct range *range = &ranges[argument];
     struct call at_least = changed(plain, argument, range->least);
     struct call at_greatest = changed(plain, argument, range->greatest);
-    check(range->name, " at its least", &at_least, range->answer_at_least);
-    check(range->name, " at its greatest", &at_greatest, range->answer_at_greatest);
+    check_call(range->name, " at its least", &at_least, range->answer_at_least);
+    check_call(range->name, " at its greatest", &at_greatest, range->answer_at_greatest);
     check_outside(argument, " one below its least", range->least - 1);
     check_outside(argument, " at INT32_MIN", INT32_MIN);
     if (range->greatest == INT32_MAX)
@@ -273,7 +271,7 @@ static void check_all_arguments_at(const char *detail, int32_t value)
     struct call call;
     for (size_t i = 0; i < ARGUMENTS; i++)
         call.value[i] = value;
-    check("every argument", detail, &call, BRADAWLET_OUT_OF_RANGE);
+    check_call("every argument", detail, &call, BRADAWLET_OUT_OF_RANGE);
 }
 
 /* Every set of the four reasons: the answer is the least of the set, and a yes for none. */
@@ -290,7 +288,7 @@ static void check_order(void)
             detail[refusal - 3] = (char)('0' + refusal);
             expected = refusal;
         }
-        check("the first of", detail, &call, expected);
+        check_call("the first of", detail, &call, expected);
     }
 }
 
@@ -455,7 +453,7 @@ int main(void)
     /* A failure is printed even if the library ends the program after it. */
     setvbuf(stdout, NULL, _IOLBF, BUFSIZ);
     for (size_t i = 0; i < LENGTH(tracks); i++)
-        check(tracks[i].name, "", &tracks[i].call, tracks[i].answer);
+        check_call(tracks[i].name, "", &tracks[i].call, tracks[i].answer);
     for (size_t i = 0; i < ARGUMENTS; i++)
         check_range((enum argument)i);
     check_all_arguments_at(" at INT32_MIN", INT32_MIN);
@@ -464,6 +462,5 @@ int main(void)
     check_bytes("no bytes", " at null", NULL, 0, BRADAWLET_BAD_HEADER);
     for (lent_side = 0; lent_side < LENT_SIDES; lent_side++)
         check_sheets();
-    printf("%u passed, %u failed\n", passed, failed);
-    return failed != 0;
+    return verdict();
 }
