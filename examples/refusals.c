@@ -34,12 +34,13 @@ static const char *reason(int32_t number)
     case BRADAWLET_NOT_LIVE:
         return "there is no such cell";
     case BRADAWLET_FULL:
-        return "the table has no room for one cell more";
+        return "the table has no room for so many cells";
     case BRADAWLET_SHORT_LIST:
         return "lend a longer list";
     case BRADAWLET_BAD_HEADER:
+        return "the bytes do not begin as a sheet of that length does";
     case BRADAWLET_BAD_RECORD:
-        return "the bytes are no sheet";
+        return "a cell of the sheet is out of range, expired or out of order";
     case BRADAWLET_SHORT_BYTES:
         return "lend more bytes";
     default:
@@ -93,6 +94,7 @@ int main(void)
     bytes[4] = 17;
     tell("a sheet with another offset, read", bradawlet_read(table, words, CELLS, bytes, sizeof bytes));
     bytes[4] = 16;
+    tell("a sheet of 2 cells, read for 1", bradawlet_read(table, words, 1, bytes, sizeof bytes));
     bytes[16] = 0;
     tell("a sheet with identifier 0, read", bradawlet_read(table, words, CELLS, bytes, sizeof bytes));
     return EXIT_SUCCESS;

@@ -6,9 +6,12 @@
  * of bradawlet_viewer.h, which this header includes. docs/MANUAL.md has the
  * rules, examples/ has whole programs.
  *
+ * Positions and edges are in units of 10 m, velocities in units per minute, and
+ * minutes are whole minutes of the day.
+ *
  * Every call takes any numbers, and any words and bytes in what it is lent: what
- * it cannot answer it refuses by number (enum bradawlet_refusal). Look at the
- * result before anything else that a call gives back.
+ * it cannot answer it refuses by number (enum bradawlet_refusal). Keep the result
+ * in an int32_t, and look at it before anything else that a call gives back.
  *
  * What a caller must keep:
  *
@@ -27,7 +30,7 @@
  *            and at most BRADAWLET_STACK_ANY_WORDS on any words.
  *
  * The library allocates nothing and needs memset of the C library, and nothing
- * else of it or of any other.
+ * else of it or of any other. The headers are C99 and C++98, and later.
  */
 #ifndef BRADAWLET_H
 #define BRADAWLET_H
@@ -49,6 +52,13 @@
 #define BRADAWLET_RESTRICT restrict
 #endif
 
+/* A number as a size, by a cast that each language takes without a warning. */
+#if defined(__cplusplus)
+#define BRADAWLET_SIZE(number) static_cast<size_t>(number)
+#else
+#define BRADAWLET_SIZE(number) ((size_t)(number))
+#endif
+
 #ifdef __cplusplus
 extern "C" {
 #endif
@@ -68,14 +78,16 @@ extern "C" {
 /* The most cells that a table can be for. */
 #define BRADAWLET_MOST_CELLS 256
 
-/* The words that a table for so many cells needs, from 1 to 256. */
-#define BRADAWLET_WORDS(cells) ((size_t)16 + (size_t)96 * ((size_t)(cells) / 2 + 1))
+/* The words that a table for so many cells needs, from 1 to 256: a constant where
+   cells is one, but not for #if. */
+#define BRADAWLET_WORDS(cells) (16 + 96 * (BRADAWLET_SIZE(cells) / 2 + 1))
 
-/* The bytes of a sheet with so many cells, from 0 to 256. */
-#define BRADAWLET_SHEET(cells) ((size_t)16 + (size_t)24 * (size_t)(cells))
+/* The bytes of a sheet with so many cells, from 0 to 256, in the same way. */
+#define BRADAWLET_SHEET(cells) (16 + 24 * BRADAWLET_SIZE(cells))
 
-/* The numbers of a cell: identifier, x, x velocity, y, y velocity and expiry, with
-   x and y as they were at minute 0. */
+/* The numbers of a cell, as a sheet has them: identifier, x, x velocity, y, y
+   velocity and expiry, with x and y as its track has them at minute 0. A report's
+   numbers stand in another order. */
 #define BRADAWLET_RECORD 6
 
 /* The stack that a call takes at the most, in bytes, on a sound table, and on any

@@ -4,8 +4,8 @@
  * to link anything for it.
  *
  * These are the words of docs/MANUAL.md, which says exactly when each is given
- * and in which order a call looks for them. A refusal changes nothing that was
- * lent, and is neither a "no" nor an empty list.
+ * and in which order a call looks for them. A refusal leaves table, list and bytes
+ * as they were, and is neither a "no" nor an empty list.
  */
 #ifndef BRADAWLET_REFUSALS_H
 #define BRADAWLET_REFUSALS_H

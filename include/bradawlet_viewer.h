@@ -3,7 +3,8 @@
  * window, and are bytes a well-formed sheet of cells?
  *
  * Link with libbradawlet_viewer.a, or with libbradawlet.a, which has these two
- * calls as well, or with both, in either order. bradawlet.h, the header of all
+ * calls as well, or with both, in either order (but whole archives, as the linker's
+ * --whole-archive takes them, of the larger alone). bradawlet.h, the header of all
  * the calls, includes this one. docs/MANUAL.md has the rules.
  *
  * The library needs no other, not even C's. It keeps no state, allocates

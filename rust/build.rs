@@ -23,14 +23,14 @@ fn stop(why: &str) -> ! {
 fn main() {
     let folder = libraries();
     if folder.is_relative() {
-        stop(&format!("{VARIABLE} must be a path from the root, and {} is not", folder.display()));
+        stop(&format!("{VARIABLE} must be an absolute path, and {} is not", folder.display()));
     }
     let archive = folder.join("libbradawlet.a");
     // Where there is none yet, one that is built later must be seen too.
     println!("cargo:rerun-if-changed={}", archive.display());
     if !archive.is_file() {
         let instead = format!("set {VARIABLE} to the folder that has it");
-        stop(&format!("there is no {}: run ./build in the root, or {instead}", archive.display()));
+        stop(&format!("there is no {}: run ./build in the repository, or {instead}", archive.display()));
     }
     println!("cargo:rustc-link-search=native={}", folder.display());
     println!("cargo:rustc-link-lib=static=bradawlet");

@@ -35,7 +35,7 @@
 //! # Memory
 //!
 //! [`Table::new`] allocates the words of a table once. [`Table::fresh`] makes a table in words that are lent,
-//! for instance in an array of [`words_for`]`(cells)`. The calls themselves allocate nothing; of the methods,
+//! for instance in an array of [`words_for`]`(cells)`, as `&mut array`. The calls themselves allocate nothing; of the methods,
 //! [`window`](Table::window), [`moving`](Table::moving) and [`to_sheet`](Table::to_sheet) allocate what they
 //! give, and [`window_into`](Table::window_into), [`moving_into`](Table::moving_into) and
 //! [`write_sheet`](Table::write_sheet) allocate nothing.
@@ -51,7 +51,7 @@
 //! # The archive
 //!
 //! The build script takes `libbradawlet.a` from the folder that the environment variable
-//! `BRADAWLET_LIBRARIES` names, and else from `target/lib` in the repository, where `./build` writes it.
+//! `BRADAWLET_LIBRARIES` names, by an absolute path, and else from `target/lib` in the repository, where `./build` writes it.
 
 #![deny(missing_docs)]
 #![deny(unsafe_op_in_unsafe_fn)]

@@ -142,7 +142,7 @@ pub struct NotListed {
 impl fmt::Display for NotListed {
     fn fmt(&self, f: &mut fmt::Formatter<'_>) -> fmt::Result {
         match self.refusal {
-            Refusal::ShortList => write!(f, "{}, {} of them", self.refusal, self.hits),
+            Refusal::ShortList => write!(f, "{}; hits: {}", self.refusal, self.hits),
             _ => self.refusal.fmt(f),
         }
     }

@@ -13,9 +13,10 @@ pub const LAYOUT: i32 = 1;
 /// ```
 /// use bradawlet::{words_for, Table};
 ///
-/// let words = [0; words_for(40)];
+/// let mut words = [0; words_for(40)];
 /// assert_eq!(words.len(), 2032);
-/// assert!(Table::fresh(words, 40).is_ok());
+/// assert!(Table::fresh(&mut words, 40).is_ok());
+/// assert!(Table::over(&words).is_ok());
 /// ```
 pub const fn words_for(cells: usize) -> usize {
     (cells / 2 + 1).saturating_mul(96).saturating_add(16)

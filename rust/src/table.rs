@@ -10,6 +10,25 @@ use std::fmt;
 /// A table of cells in words `W`: `&mut [i32]` that are lent, an owned `Vec<i32>` or `Box<[i32]>`, an array;
 /// for reading alone `&[i32]` is enough.
 ///
+/// Arrays are copied when they are handed over: a table made of `array` stands in a copy, and one made of
+/// `&mut array` in the array itself.
+///
+/// ```
+/// use bradawlet::{words_for, Refusal, Report, Table};
+/// use std::sync::Mutex;
+///
+/// static WORDS: Mutex<[i32; words_for(40)]> = Mutex::new([0; words_for(40)]);
+///
+/// fn main() -> Result<(), Refusal> {
+///     let mut words = WORDS.lock().unwrap();
+///     let mut table = Table::fresh(&mut words[..], 40)?;
+///     table.report(&Report { id: 7, x: 100, y: 200, vx: 5, vy: -3, minute: 10, expiry: 40 })?;
+///     // The words are the table still, for whoever takes them next.
+///     assert_eq!(Table::over(&words[..])?.cells()?.count(), 1);
+///     Ok(())
+/// }
+/// ```
+///
 /// All that a table knows stands in its words. [`into_words`](Table::into_words) hands them out, and
 /// [`over`](Table::over) takes them for a table again, after a test.
 ///
@@ -243,7 +262,7 @@ impl<W: AsRef<[i32]>> Table<W> {
         Cells::opened(self.words(), last)
     }
 
-    /// The table's sheet: its clock and its live cells as bytes.
+    /// The table's sheet: its clock and its live cells as bytes. The clock is a little-endian word at byte 8.
     ///
     /// # Errors
     ///
@@ -252,6 +271,8 @@ impl<W: AsRef<[i32]>> Table<W> {
     /// ```
     /// let sheet = bradawlet::Table::new(8)?.to_sheet()?;
     /// assert_eq!(sheet, [0, 0, 0, 0, 16, 0, 0, 0, 0, 0, 0, 0, 16, 0, 0, 0]);
+    /// let clock = i32::from_le_bytes([sheet[8], sheet[9], sheet[10], sheet[11]]);
+    /// assert_eq!(clock, 0);
     /// # Ok::<(), bradawlet::Refusal>(())
     /// ```
     pub fn to_sheet(&self) -> Result<Vec<u8>, Refusal> {

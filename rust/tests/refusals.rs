@@ -74,7 +74,7 @@ fn only_a_short_list_comes_with_a_count() {
     let table = with_one_cell();
     let short = table.window_into(&SOON, &mut []).unwrap_err();
     assert_eq!(short, NotListed { refusal: Refusal::ShortList, hits: 1 });
-    assert_eq!(short.to_string(), "refused by 10: there are more hits than the list has places, 1 of them");
+    assert_eq!(short.to_string(), "refused by 10: there are more hits than the list has places; hits: 1");
     let early = table.window_into(&Window { start: 9, ..SOON }, &mut []).unwrap_err();
     assert_eq!(early, NotListed { refusal: Refusal::BeforeClock, hits: 0 });
     assert_eq!(early.to_string(), Refusal::BeforeClock.to_string());
