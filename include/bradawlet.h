@@ -10,8 +10,9 @@
  * minutes are whole minutes of the day.
  *
  * Every call takes any numbers, and any words and bytes in what it is lent: what
- * it cannot answer it refuses by number (enum bradawlet_refusal). Keep the result
- * in an int32_t, and look at it before anything else that a call gives back.
+ * it cannot answer it refuses by number (enum bradawlet_refusal), but a step of the
+ * leafing gives none. Keep the result in an int32_t, and look at it before anything
+ * else that a call gives back.
  *
  * What a caller must keep:
  *
@@ -92,7 +93,7 @@ extern "C" {
 
 /* The stack that a call takes at the most, in bytes, on a sound table, and on any
    words: at most three times what was measured. */
-#define BRADAWLET_STACK 16384
+#define BRADAWLET_STACK 20480
 #define BRADAWLET_STACK_ANY_WORDS 98304
 
 /* What an accepted call on a table gives: no refusal. */

@@ -34,11 +34,15 @@
 //!
 //! # Memory
 //!
-//! [`Table::new`] allocates the words of a table once. [`Table::fresh`] makes a table in words that are lent,
+//! [`Table::new`] and [`Table::new_from_sheet`] allocate the words of a table once. [`Table::fresh`] and
+//! [`Table::from_sheet`] make a table in words that are lent,
 //! for instance in an array of [`words_for`]`(cells)`, as `&mut array`. The calls themselves allocate nothing; of the methods,
 //! [`window`](Table::window), [`moving`](Table::moving) and [`to_sheet`](Table::to_sheet) allocate what they
 //! give, and [`window_into`](Table::window_into), [`moving_into`](Table::moving_into) and
 //! [`write_sheet`](Table::write_sheet) allocate nothing.
+//!
+//! How much stack a call takes at the most is said by `BRADAWLET_STACK` and, for words that are no table,
+//! `BRADAWLET_STACK_ANY_WORDS` in `include/bradawlet.h`.
 //!
 //! The calls keep no state of their own: tables can go to other threads, and be shared between them, as the
 //! words that they stand in can.

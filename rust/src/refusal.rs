@@ -3,7 +3,8 @@
 use std::error::Error;
 use std::fmt;
 
-/// Why a call was refused. A refused call has changed nothing.
+/// Why a call was refused. A refused call has changed nothing that it was lent; what it was given to own,
+/// as a vector of words that are no table, is gone: to keep it, lend it.
 ///
 /// Each has the number that the C calls give. Where several reasons hold, a call gives the first of its own;
 /// each method lists them in that order.

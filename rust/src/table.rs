@@ -34,8 +34,9 @@ use std::fmt;
 ///
 /// Words past those that the capacity needs are never touched. A refused call changes nothing.
 ///
-/// Every call tests its words anew, and lists [`NotSound`](Refusal::NotSound) first among its refusals. It
-/// comes up only if `W` gives other words than it gave before: slices, vectors, boxes and arrays never do.
+/// Every method of a table tests its words anew, and lists [`NotSound`](Refusal::NotSound) first among its
+/// refusals. It comes up only if `W` gives other words than it gave before: slices, vectors, boxes and arrays
+/// never do.
 ///
 /// Two tables with the same clock and live cells answer alike though their words may differ, so tables are
 /// not compared by `==`: compare their sheets.

@@ -1,12 +1,13 @@
 //! Tables over words of every kind, borrowed and owned; words that are no table; sheets there and back.
 
 use bradawlet::{
-    judge_sheet, sheet_length, words_for, Cell, Hits, Moving, Rectangle, Refusal, Report, Table, Window,
-    LAYOUT, MOST_CELLS,
+    judge_sheet, sheet_length, words_for, Cell, Hits, Moving, NotListed, Rectangle, Refusal, Report, Table,
+    Window, LAYOUT, MOST_CELLS,
 };
 
 const EVERYWHERE: Rectangle = Rectangle { xlow: -100_000, xhigh: 100_000, ylow: -100_000, yhigh: 100_000 };
 const LATER: Window = Window { start: 20, end: 40, rectangle: EVERYWHERE };
+const ALONG: Moving = Moving { start: 20, end: 40, first: EVERYWHERE, last: EVERYWHERE };
 
 /// Neither 0 nor what a fresh table has in any word.
 const RUBBISH: i32 = 0x5a5a_5a5a;
@@ -35,8 +36,7 @@ fn serves<W: AsRef<[i32]> + AsMut<[i32]>>(mut table: Table<W>, cells: i32) {
 fn answers<W: AsRef<[i32]>>(table: &Table<W>, cells: i32) {
     let ids: Vec<i32> = (1..=cells).collect();
     assert_eq!(table.window(&LATER).expect("accepted").ids, ids);
-    let moving = Moving { start: 20, end: 40, first: EVERYWHERE, last: EVERYWHERE };
-    assert_eq!(table.moving(&moving).expect("accepted").ids, ids);
+    assert_eq!(table.moving(&ALONG).expect("accepted").ids, ids);
     let mut list = vec![RUBBISH; ids.len() + 1];
     let Hits { ids: listed, opened } = table.window_into(&LATER, &mut list).expect("room enough");
     assert_eq!(listed, ids);
@@ -56,6 +56,18 @@ fn tables_are_made_in_words_of_every_kind() {
     serves(Table::fresh(&mut lent[..], 9).expect("a lent slice"), 9);
     serves(Table::fresh(&mut lent, 8).expect("a lent array"), 8);
     assert_eq!(lent[words_for(9)..], [RUBBISH; 5]);
+}
+
+#[test]
+fn tables_go_to_other_threads() {
+    let table = Table::new(8).expect("owned");
+    let live = std::thread::scope(|threads| {
+        let first = threads.spawn(|| table.cells().expect("sound").count());
+        let second = threads.spawn(|| table.window(&LATER).expect("accepted").ids.len());
+        first.join().expect("it ends") + second.join().expect("it ends")
+    });
+    assert_eq!(live, 0);
+    assert_eq!(std::thread::spawn(move || table.into_words().len()).join().expect("it ends"), words_for(8));
 }
 
 #[test]
@@ -144,6 +156,10 @@ fn words_that_stop_being_a_table_are_refused_by_every_call_that_reads() {
     assert_eq!(table.cells().map(drop), Err(Refusal::NotSound));
     assert_eq!(table.cells_after(5).map(drop), Err(Refusal::NotSound));
     assert_eq!(table.window(&LATER).map(drop), Err(Refusal::NotSound));
+    assert_eq!(table.moving(&ALONG).map(drop), Err(Refusal::NotSound));
+    let refused = NotListed { refusal: Refusal::NotSound, hits: 0 };
+    assert_eq!(table.window_into(&LATER, &mut []).map(drop), Err(refused));
+    assert_eq!(table.moving_into(&ALONG, &mut []).map(drop), Err(refused));
     assert_eq!(table.to_sheet(), Err(Refusal::NotSound));
     assert_eq!(table.write_sheet(&mut []), Err(Refusal::NotSound));
 }
