@@ -43,6 +43,8 @@ static const char *reason(int32_t number)
         return "a cell of the sheet is out of range, expired or out of order";
     case BRADAWLET_SHORT_BYTES:
         return "lend more bytes";
+    case BRADAWLET_NO_TRACK:
+        return "the line and the identifier give no cell";
     default:
         return "no refusal";
     }
@@ -97,5 +99,9 @@ int main(void)
     tell("a sheet of 2 cells, read for 1", bradawlet_read(table, words, 1, bytes, sizeof bytes));
     bytes[16] = 0;
     tell("a sheet with identifier 0, read", bradawlet_read(table, words, CELLS, bytes, sizeof bytes));
+
+    static const uint8_t point[] = "POINT M (1000 2000 10)\n";
+    int32_t cell[BRADAWLET_RECORD];
+    tell("a point, read as a track", bradawlet_read_track(7, point, sizeof point - 1, cell));
     return EXIT_SUCCESS;
 }

@@ -16,11 +16,11 @@
  *
  * What a caller must keep:
  *
- *   Size     A table, a list and bytes are memory of as many words or bytes as is
- *            said, aligned as C asks. The single numbers that are given back, and
- *            the BRADAWLET_RECORD numbers of a cell, are memory for just these.
- *   Null     A table, a list or bytes may be null where the number beside it is 0.
- *            No other pointer may be null.
+ *   Size     A table, a list, bytes and a line are memory of as many words or bytes
+ *            as is said, aligned as C asks. The single numbers that are given back,
+ *            and the BRADAWLET_RECORD numbers of a cell, are memory for just these.
+ *   Null     A table, a list, bytes or a line may be null where the number beside it
+ *            is 0. No other pointer may be null.
  *   Apart    What a call writes must be apart from all else that it is lent; the
  *            pointers that this is asked of are marked BRADAWLET_RESTRICT.
  *   Alone    Nothing else may write to what is lent, and nothing else may read
@@ -30,8 +30,8 @@
  *   Stack    A call takes at most BRADAWLET_STACK bytes of stack on a sound table,
  *            and at most BRADAWLET_STACK_ANY_WORDS on any words.
  *
- * The library allocates nothing and needs memset of the C library, and nothing
- * else of it or of any other. The headers are C99 and C++98, and later.
+ * The library allocates nothing and needs memcpy and memset of the C library, and
+ * nothing else of it or of any other. The headers are C99 and C++98, and later.
  */
 #ifndef BRADAWLET_H
 #define BRADAWLET_H
@@ -66,9 +66,9 @@ extern "C" {
 
 /* The version of the calls. */
 #define BRADAWLET_VERSION_MAJOR 0
-#define BRADAWLET_VERSION_MINOR 1
+#define BRADAWLET_VERSION_MINOR 2
 #define BRADAWLET_VERSION_PATCH 0
-#define BRADAWLET_VERSION "0.1.0"
+#define BRADAWLET_VERSION "0.2.0"
 
 /* The version of a table's layout. Tables of one layout can be kept over an
    upgrade of the library; where this number changes they cannot, and nothing in
@@ -86,6 +86,12 @@ extern "C" {
 /* The bytes of a sheet with so many cells, from 0 to 256, in the same way. */
 #define BRADAWLET_SHEET(cells) (16 + 24 * BRADAWLET_SIZE(cells))
 
+/* The bytes of the longest line that a cell gives, its line feed included, and the
+   bytes that are enough for the lines of so many cells, from 0 to 256, in the same
+   way. No zero byte is counted: fgets needs one more for the longest line. */
+#define BRADAWLET_TRACK 66
+#define BRADAWLET_TRACKS(cells) (BRADAWLET_TRACK * BRADAWLET_SIZE(cells))
+
 /* The numbers of a cell, as a sheet has them: identifier, x, x velocity, y, y
    velocity and expiry, with x and y as its track has them at minute 0. A report's
    numbers stand in another order. */
@@ -96,7 +102,7 @@ extern "C" {
 #define BRADAWLET_STACK 20480
 #define BRADAWLET_STACK_ANY_WORDS 98304
 
-/* What an accepted call on a table gives: no refusal. */
+/* What an accepted call on a table, and the reading of a line, gives: no refusal. */
 enum bradawlet_accepted {
     BRADAWLET_DONE = 0
 };
@@ -261,7 +267,8 @@ int32_t bradawlet_open(const int32_t *table, size_t words);
  *   words    how many words are lent
  *   last     0 for the first cell, then the identifier that was given last; it
  *            may be any number
- *   numbers  gives the BRADAWLET_RECORD numbers of the cell
+ *   numbers  gives the BRADAWLET_RECORD numbers of the cell, not in the order of a
+ *            report's
  *
  * The answer is BRADAWLET_ONE. Or it is BRADAWLET_NONE, and the numbers are 0: no
  * more are left, or the words are not a sound table. So it is an answer only
@@ -318,6 +325,82 @@ int32_t bradawlet_write(const int32_t *BRADAWLET_RESTRICT table, size_t words,
  */
 int32_t bradawlet_read(int32_t *BRADAWLET_RESTRICT table, size_t words, int32_t cells,
                        const uint8_t *BRADAWLET_RESTRICT bytes, size_t length);
+
+/*
+ * Writes the tracks of a table's live cells, those whose expiry is not before the
+ * clock, as well-known text (OGC 06-103r4), which map programs read: a line for
+ * each cell, by rising identifier, as the leafing gives them.
+ *
+ *   LINESTRING M (x y m, x y m)   where the cell is at the clock, and where it is
+ *                                 at its expiry
+ *   POINT M (x y m)               where it is at the clock, if that is its expiry
+ *
+ * x and y are in whole metres, 10 for each unit, and m is the minute. A number has
+ * no leading zeros and no plus sign. Each line, the last one too, ends in a line
+ * feed, and no zero byte follows. No line says which cell it is of: the leafing
+ * has the cells in the same order, as long as no report or drop comes between.
+ *
+ *   table    the table, which is not changed; it may hold any words
+ *   words    how many words are lent
+ *   bytes    where the text goes
+ *   length   how many bytes there is room for
+ *   total    gives how many bytes the text has
+ *
+ * The answer is BRADAWLET_DONE, and then the first bytes, as many as the total,
+ * are the text; the others are not touched. Where no cell is live the text has
+ * none. Or it is a refusal, for the first of these reasons that holds:
+ *
+ *   BRADAWLET_NOT_SOUND     the words are not a sound table
+ *   BRADAWLET_SHORT_BYTES   the whole text is longer than the bytes
+ *
+ * Then no byte is touched and the total is 0. BRADAWLET_TRACKS(256) bytes are
+ * enough for any table.
+ */
+int32_t bradawlet_tracks(const int32_t *BRADAWLET_RESTRICT table, size_t words,
+                         uint8_t *BRADAWLET_RESTRICT bytes, size_t length,
+                         int32_t *BRADAWLET_RESTRICT total);
+
+/*
+ * Reads a line that bradawlet_tracks could have written: gives the cell with this
+ * track and this identifier. No table is needed, and none is changed.
+ *
+ *   id       the cell's identifier                 1 to 2147483647
+ *   line     one line, with its line feed and with nothing after it; it may be any
+ *            bytes
+ *   length   how many bytes there are
+ *   numbers  gives the BRADAWLET_RECORD numbers of the cell, not in the order of a
+ *            report's
+ *
+ * The line must be LINESTRING M (x1 y1 m1, x2 y2 m2), spelt to the byte as
+ * bradawlet_tracks spells it, with numbers in these ranges:
+ *
+ *   m1, m2   minutes, the first before the second  0 to 1440 each
+ *   x1, y1, x2, y2
+ *            metres                                multiples of 10
+ *   the velocity that takes the cell from one point to the other, in units a
+ *            minute, on x and on y                 whole, -512 to 512 each
+ *   the position at minute 0 that follows, in
+ *            units, x and y                        -837280 to 837280 each
+ *
+ * The points themselves may lie anywhere, also farther out than a report may.
+ *
+ * The answer is BRADAWLET_DONE, and the numbers are those of the cell, with m2 as
+ * its expiry; m1 is not among them. Or it is a refusal, and the numbers are 0:
+ *
+ *   BRADAWLET_NO_TRACK      the line is not as above, or the identifier is outside
+ *                           its range
+ *
+ * A POINT line is refused so as well, as it has no velocity, and so is text that
+ * other programs write with other spaces or other spellings of a number. A POINT is
+ * a cell in its last minute: pass over it; a sheet carries it.
+ *
+ * To put the cell into a table, report it as it is at a minute t that is not before
+ * m1, not before the table's clock and not after the expiry: at x + vx * t and
+ * y + vy * t. The cell is the same for every such t, but t becomes the clock. Where
+ * it is refused as out of range a sheet takes it (docs/MANUAL.md, section 8).
+ */
+int32_t bradawlet_read_track(int32_t id, const uint8_t *BRADAWLET_RESTRICT line, size_t length,
+                             int32_t *BRADAWLET_RESTRICT numbers);
 
 /*
  * Says whether a reported cell meets a moving query: a rectangle that goes

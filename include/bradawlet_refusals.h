@@ -38,8 +38,10 @@ enum bradawlet_refusal {
     BRADAWLET_BAD_HEADER = 11,
     /* A record of the sheet is wrong. */
     BRADAWLET_BAD_RECORD = 12,
-    /* The bytes are too few for the sheet. */
-    BRADAWLET_SHORT_BYTES = 13
+    /* The bytes are too few for the sheet or for the text. */
+    BRADAWLET_SHORT_BYTES = 13,
+    /* The line and the identifier give no cell. */
+    BRADAWLET_NO_TRACK = 14
 };
 
 #endif

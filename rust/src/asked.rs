@@ -1,5 +1,7 @@
 //! What goes into calls and comes out of them, as plain numbers.
 
+use crate::calls::RECORD;
+
 /// A cell as radar saw it.
 ///
 /// Positions are in units of 10 m, velocities in units a minute, minutes are whole minutes of the day.
@@ -77,6 +79,10 @@ pub struct Cell {
 }
 
 impl Cell {
+    pub(crate) fn of_record([id, x, vx, y, vy, expiry]: [i32; RECORD]) -> Cell {
+        Cell { id, x, vx, y, vy, expiry }
+    }
+
     /// Where its straight track is at a minute, x and y. It says nothing of the cell past its expiry.
     ///
     /// ```

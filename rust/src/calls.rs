@@ -82,6 +82,16 @@ mod c {
 
         pub fn bradawlet_next(table: *const i32, words: usize, last: i32, numbers: *mut i32) -> i32;
 
+        pub fn bradawlet_tracks(
+            table: *const i32,
+            words: usize,
+            bytes: *mut u8,
+            length: usize,
+            total: *mut i32,
+        ) -> i32;
+
+        pub fn bradawlet_read_track(id: i32, line: *const u8, length: usize, numbers: *mut i32) -> i32;
+
         pub fn bradawlet_meets(
             id: i32,
             x: i32,
@@ -226,6 +236,26 @@ pub fn next(table: &[i32], last: i32) -> (i32, [i32; RECORD]) {
     // from all else.
     let answer = unsafe { c::bradawlet_next(table.as_ptr(), table.len(), last, numbers.as_mut_ptr()) };
     (answer, numbers)
+}
+
+/// The number, and the text's total.
+pub fn tracks(table: &[i32], bytes: &mut [u8]) -> (i32, i32) {
+    let mut total = 0;
+    // SAFETY: the words are lent with their number and only read; the bytes are lent with theirs, and they
+    // and the total are apart from all else.
+    let number = unsafe {
+        c::bradawlet_tracks(table.as_ptr(), table.len(), bytes.as_mut_ptr(), bytes.len(), &mut total)
+    };
+    (number, total)
+}
+
+/// The number, and the cell's numbers.
+pub fn read_track(id: i32, line: &[u8]) -> (i32, [i32; RECORD]) {
+    let mut numbers = [0; RECORD];
+    // SAFETY: the bytes are lent with their number and only read; there is room for a record's numbers, apart
+    // from all else.
+    let number = unsafe { c::bradawlet_read_track(id, line.as_ptr(), line.len(), numbers.as_mut_ptr()) };
+    (number, numbers)
 }
 
 pub fn meets(report: &Report, window: &Window) -> i32 {

@@ -29,9 +29,10 @@ impl Iterator for Cells<'_> {
     fn next(&mut self) -> Option<Cell> {
         match calls::next(self.words, self.last) {
             (0, _) => None,
-            (1, [id, x, vx, y, vy, expiry]) => {
-                self.last = id;
-                Some(Cell { id, x, vx, y, vy, expiry })
+            (1, record) => {
+                let cell = Cell::of_record(record);
+                self.last = cell.id;
+                Some(cell)
             }
             (other, _) => another_library(other),
         }

@@ -37,9 +37,10 @@
 //! [`Table::new`] and [`Table::new_from_sheet`] allocate the words of a table once. [`Table::fresh`] and
 //! [`Table::from_sheet`] make a table in words that are lent,
 //! for instance in an array of [`words_for`]`(cells)`, as `&mut array`. The calls themselves allocate nothing; of the methods,
-//! [`window`](Table::window), [`moving`](Table::moving) and [`to_sheet`](Table::to_sheet) allocate what they
-//! give, and [`window_into`](Table::window_into), [`moving_into`](Table::moving_into) and
-//! [`write_sheet`](Table::write_sheet) allocate nothing.
+//! [`window`](Table::window), [`moving`](Table::moving), [`to_sheet`](Table::to_sheet) and
+//! [`to_tracks`](Table::to_tracks) allocate what they give, and [`window_into`](Table::window_into),
+//! [`moving_into`](Table::moving_into), [`write_sheet`](Table::write_sheet) and
+//! [`write_tracks`](Table::write_tracks) allocate nothing.
 //!
 //! How much stack a call takes at the most is said by `BRADAWLET_STACK` and, for words that are no table,
 //! `BRADAWLET_STACK_ANY_WORDS` in `include/bradawlet.h`.
@@ -50,7 +51,7 @@
 //! # Panics
 //!
 //! No number, no words and no bytes make a method panic. The one panic is for another library under the name
-//! of `libbradawlet.a`, one that answers with a number that no call gives.
+//! of `libbradawlet.a`, one that answers with what no call gives.
 //!
 //! # The archive
 //!
@@ -69,10 +70,12 @@ mod meeting;
 mod refusal;
 mod sizes;
 mod table;
+mod tracks;
 
 pub use asked::{Cell, Hits, Moving, Rectangle, Report, Window};
 pub use cells::Cells;
 pub use meeting::{judge_sheet, meets, meets_moving};
 pub use refusal::{NotListed, Refusal};
-pub use sizes::{sheet_length, words_for, LAYOUT, MOST_CELLS};
+pub use sizes::{longest_tracks, sheet_length, words_for, LAYOUT, LONGEST_TRACK, MOST_CELLS};
 pub use table::Table;
+pub use tracks::read_track;

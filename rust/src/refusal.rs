@@ -1,4 +1,4 @@
-//! The thirteen reasons for which calls are refused.
+//! The fourteen reasons for which calls are refused.
 
 use std::error::Error;
 use std::fmt;
@@ -49,13 +49,15 @@ pub enum Refusal {
     /// A record of the sheet is out of range or expires before the sheet's clock, or the identifiers do not
     /// rise.
     BadRecord = 12,
-    /// The bytes are too few for the sheet.
+    /// The bytes are too few for the sheet or for the text.
     ShortBytes = 13,
+    /// The line and the identifier give no cell.
+    NoTrack = 14,
 }
 
 impl Refusal {
     /// Every refusal, by rising number.
-    pub const ALL: [Refusal; 13] = [
+    pub const ALL: [Refusal; 14] = [
         Refusal::NotSound,
         Refusal::BadCapacity,
         Refusal::ShortTable,
@@ -69,9 +71,10 @@ impl Refusal {
         Refusal::BadHeader,
         Refusal::BadRecord,
         Refusal::ShortBytes,
+        Refusal::NoTrack,
     ];
 
-    /// Its number, from 1 to 13.
+    /// Its number, from 1 to 14.
     ///
     /// ```
     /// assert_eq!(bradawlet::Refusal::Backward.number(), 7);
@@ -106,7 +109,8 @@ impl Refusal {
             Refusal::ShortList => "there are more hits than the list has places",
             Refusal::BadHeader => "the sheet's header is wrong",
             Refusal::BadRecord => "a record of the sheet is wrong",
-            Refusal::ShortBytes => "the bytes are too few for the sheet",
+            Refusal::ShortBytes => "the bytes are too few for the sheet or the text",
+            Refusal::NoTrack => "the line and the identifier give no cell",
         }
     }
 }
@@ -157,7 +161,7 @@ impl From<NotListed> for Refusal {
     }
 }
 
-/// What the number of a call on a table says.
+/// What the number of a call on a table, or of the reading of a line, says.
 pub(crate) fn accepted(number: i32) -> Result<(), Refusal> {
     match number {
         0 => Ok(()),
@@ -183,7 +187,7 @@ pub(crate) fn count(given: i32) -> usize {
     usize::try_from(given).unwrap_or_else(|_| another_library(given))
 }
 
-pub(crate) fn another_library(given: i32) -> ! {
+pub(crate) fn another_library(given: impl fmt::Display) -> ! {
     panic!("libbradawlet.a is another library: it gave {given}, which no call gives")
 }
 
@@ -195,13 +199,13 @@ mod tests {
     fn zero_alone_is_accepted() {
         assert_eq!(accepted(0), Ok(()));
         assert_eq!(accepted(1), Err(Refusal::NotSound));
-        assert_eq!(accepted(13), Err(Refusal::ShortBytes));
+        assert_eq!(accepted(14), Err(Refusal::NoTrack));
     }
 
     #[test]
-    #[should_panic(expected = "another library: it gave 14")]
+    #[should_panic(expected = "another library: it gave 15")]
     fn a_number_that_no_call_gives_is_no_answer() {
-        let _ = accepted(14);
+        let _ = accepted(15);
     }
 
     #[test]

@@ -1,4 +1,4 @@
-//! How much memory a table and a sheet need.
+//! How much memory a table, a sheet and the text of tracks need.
 
 /// The most cells that a table can be for.
 pub const MOST_CELLS: usize = 256;
@@ -30,4 +30,21 @@ pub const fn words_for(cells: usize) -> usize {
 /// ```
 pub const fn sheet_length(cells: usize) -> usize {
     cells.saturating_mul(24).saturating_add(16)
+}
+
+/// The bytes of the longest line that a cell's track gives, its line feed included.
+///
+/// ```
+/// let longest = "LINESTRING M (-13492800 -13492800 1000, -15745600 -15745600 1440)\n";
+/// assert_eq!(longest.len(), bradawlet::LONGEST_TRACK);
+/// ```
+pub const LONGEST_TRACK: usize = 66;
+
+/// The bytes that are enough for the tracks of so many cells, from 0 to 256: 66 × cells.
+///
+/// ```
+/// assert_eq!(bradawlet::longest_tracks(bradawlet::MOST_CELLS), 16_896);
+/// ```
+pub const fn longest_tracks(cells: usize) -> usize {
+    cells.saturating_mul(LONGEST_TRACK)
 }

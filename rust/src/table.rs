@@ -4,7 +4,8 @@ use crate::asked::{Hits, Moving, Report, Window};
 use crate::calls::{self, Answer};
 use crate::cells::Cells;
 use crate::refusal::{accepted, count, NotListed, Refusal};
-use crate::sizes::{sheet_length, words_for, MOST_CELLS};
+use crate::sizes::{longest_tracks, sheet_length, words_for, MOST_CELLS};
+use crate::tracks;
 use std::fmt;
 
 /// A table of cells in words `W`: `&mut [i32]` that are lent, an owned `Vec<i32>` or `Box<[i32]>`, an array;
@@ -301,6 +302,64 @@ impl<W: AsRef<[i32]>> Table<W> {
     /// ```
     pub fn write_sheet(&self, bytes: &mut [u8]) -> Result<usize, Refusal> {
         let (number, total) = calls::write(self.words(), bytes);
+        accepted(number).map(|()| count(total))
+    }
+
+    /// The tracks of the live cells as well-known text, for map programs: a line for each, by rising
+    /// identifier as [`cells`](Table::cells) has them. `LINESTRING M (x y m, x y m)` is where the cell is at
+    /// the clock and where at its expiry, in whole metres, each with its minute; a cell whose expiry is the
+    /// clock gives `POINT M (x y m)`. Each line ends in a line feed, and no line says which cell it is of.
+    ///
+    /// It is a `String`, not bytes as a sheet is, because it is text to be printed, split into lines and
+    /// stored, and all of it is ASCII.
+    ///
+    /// # Errors
+    ///
+    /// [`NotSound`](Refusal::NotSound).
+    ///
+    /// ```
+    /// use bradawlet::{read_track, Report, Table};
+    ///
+    /// let mut table = Table::new(8)?;
+    /// table.report(&Report { id: 7, x: 100, y: 200, vx: 5, vy: -3, minute: 10, expiry: 40 })?;
+    /// table.report(&Report { id: 9, x: 0, y: 0, vx: 3, vy: 3, minute: 10, expiry: 30 })?;
+    /// let text = table.to_tracks()?;
+    /// assert_eq!(text, "LINESTRING M (1000 2000 10, 2500 1100 40)\nLINESTRING M (0 0 10, 600 600 30)\n");
+    /// // Each line is a cell again, with the identifier that stands beside it.
+    /// for (cell, line) in table.cells()?.zip(text.split_inclusive('\n')) {
+    ///     assert_eq!(read_track(cell.id, line), Ok(cell));
+    /// }
+    /// # Ok::<(), bradawlet::Refusal>(())
+    /// ```
+    pub fn to_tracks(&self) -> Result<String, Refusal> {
+        let mut bytes = vec![0; longest_tracks(MOST_CELLS)];
+        let total = self.write_tracks(&mut bytes)?;
+        bytes.truncate(total);
+        Ok(tracks::text(bytes))
+    }
+
+    /// Writes the text of [`to_tracks`](Table::to_tracks) to the first of the lent bytes and gives its length:
+    /// nothing is allocated. The other bytes are not touched, and a refusal touches none.
+    ///
+    /// # Errors
+    ///
+    /// The first of [`NotSound`](Refusal::NotSound) and [`ShortBytes`](Refusal::ShortBytes), which is given
+    /// if the whole text is longer than the bytes. [`longest_tracks`] of the capacity is always enough.
+    ///
+    /// ```
+    /// use bradawlet::{longest_tracks, Refusal, Report, Table};
+    ///
+    /// let mut table = Table::new(8)?;
+    /// assert_eq!(table.write_tracks(&mut []), Ok(0));
+    /// table.report(&Report { id: 9, x: 0, y: 0, vx: 3, vy: 3, minute: 10, expiry: 30 })?;
+    /// let mut bytes = [0; longest_tracks(8)];
+    /// let total = table.write_tracks(&mut bytes)?;
+    /// assert_eq!(&bytes[..total], b"LINESTRING M (0 0 10, 600 600 30)\n");
+    /// assert_eq!(table.write_tracks(&mut bytes[..total - 1]), Err(Refusal::ShortBytes));
+    /// # Ok::<(), Refusal>(())
+    /// ```
+    pub fn write_tracks(&self, bytes: &mut [u8]) -> Result<usize, Refusal> {
+        let (number, total) = calls::tracks(self.words(), bytes);
         accepted(number).map(|()| count(total))
     }
 }

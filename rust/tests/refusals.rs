@@ -1,7 +1,8 @@
 //! Every refusal comes up through the crate, each by its own number, and in the order that calls have.
 
 use bradawlet::{
-    judge_sheet, meets, meets_moving, words_for, Moving, NotListed, Rectangle, Refusal, Report, Table, Window,
+    judge_sheet, meets, meets_moving, read_track, words_for, Moving, NotListed, Rectangle, Refusal, Report,
+    Table, Window,
 };
 use std::error::Error;
 
@@ -22,7 +23,7 @@ fn bytes(words: &[i32]) -> Vec<u8> {
 }
 
 #[test]
-fn each_of_the_thirteen_comes_up() {
+fn each_of_the_fourteen_comes_up() {
     let mut table = with_one_cell();
     let sheet_of_two = bytes(&[2, 16, 0, 64, 1, 0, 0, 0, 0, 9, 2, 0, 0, 0, 0, 9]);
     let given = [
@@ -39,17 +40,19 @@ fn each_of_the_thirteen_comes_up() {
         judge_sheet(&bytes(&[0, 16, 0])).unwrap_err(),
         judge_sheet(&bytes(&[1, 16, 10, 40, 7, 50, 5, 230, -3, 9])).unwrap_err(),
         table.write_sheet(&mut [0; 39]).unwrap_err(),
+        read_track(7, "LINESTRING M (1000 2000 10, 2500 1100 40)").unwrap_err(),
     ];
     let numbers: Vec<i32> = given.iter().map(|refusal| refusal.number()).collect();
-    assert_eq!(numbers, (1..=13).collect::<Vec<i32>>());
+    assert_eq!(numbers, (1..=14).collect::<Vec<i32>>());
     assert_eq!(Table::new_from_sheet(1, &sheet_of_two).unwrap_err().number(), 9);
+    assert_eq!(table.write_tracks(&mut [0; 41]).unwrap_err().number(), 13);
 }
 
 #[test]
-fn a_number_is_a_refusal_from_1_to_13_alone() {
+fn a_number_is_a_refusal_from_1_to_14_alone() {
     for number in -3..20 {
         let refusal = Refusal::from_number(number);
-        assert_eq!(refusal.map(Refusal::number), (1..=13).contains(&number).then_some(number));
+        assert_eq!(refusal.map(Refusal::number), (1..=14).contains(&number).then_some(number));
     }
     assert_eq!(Refusal::from_number(i32::MIN), None);
     assert_eq!(Refusal::from_number(i32::MAX), None);

@@ -1,8 +1,8 @@
 //! Tables over words of every kind, borrowed and owned; words that are no table; sheets there and back.
 
 use bradawlet::{
-    judge_sheet, sheet_length, words_for, Cell, Hits, Moving, NotListed, Rectangle, Refusal, Report, Table,
-    Window, LAYOUT, MOST_CELLS,
+    judge_sheet, longest_tracks, sheet_length, words_for, Cell, Hits, Moving, NotListed, Rectangle, Refusal,
+    Report, Table, Window, LAYOUT, LONGEST_TRACK, MOST_CELLS,
 };
 
 const EVERYWHERE: Rectangle = Rectangle { xlow: -100_000, xhigh: 100_000, ylow: -100_000, yhigh: 100_000 };
@@ -96,7 +96,9 @@ fn a_capacity_that_there_is_not_is_refused_however_large() {
 fn sizes_are_those_of_the_requirements() {
     assert_eq!((words_for(1), words_for(256), MOST_CELLS), (112, 12_400, 256));
     assert_eq!((sheet_length(0), sheet_length(1), sheet_length(256)), (16, 40, 6_160));
-    assert_eq!((words_for(usize::MAX), sheet_length(usize::MAX)), (usize::MAX, usize::MAX));
+    assert_eq!((longest_tracks(0), LONGEST_TRACK, longest_tracks(256)), (0, 66, 16_896));
+    let most = usize::MAX;
+    assert_eq!((words_for(most), sheet_length(most), longest_tracks(most)), (most, most, most));
     assert_eq!(LAYOUT, 1);
 }
 
@@ -121,6 +123,7 @@ fn words_that_are_no_table_give_no_iterator() {
             Ok(mut table) => {
                 assert!(table.cells().expect("it was tested").count() <= 8);
                 assert_eq!(judge_sheet(&table.to_sheet().expect("it was tested")), Ok(()));
+                assert!(table.to_tracks().expect("it was tested").len() <= longest_tracks(8));
                 assert_ne!(table.report(&report(4)), Err(Refusal::NotSound));
                 sound += 1;
             }
@@ -162,6 +165,8 @@ fn words_that_stop_being_a_table_are_refused_by_every_call_that_reads() {
     assert_eq!(table.moving_into(&ALONG, &mut []).map(drop), Err(refused));
     assert_eq!(table.to_sheet(), Err(Refusal::NotSound));
     assert_eq!(table.write_sheet(&mut []), Err(Refusal::NotSound));
+    assert_eq!(table.to_tracks(), Err(Refusal::NotSound));
+    assert_eq!(table.write_tracks(&mut []), Err(Refusal::NotSound));
 }
 
 #[test]

@@ -1,16 +1,21 @@
 /*
  * Makes fresh tables, reports to them and drops from them, asks them, writes and
- * reads their sheets and leafs through them, from C: every number that these
- * calls give. All that is lent is lent in blocks of just its size.
+ * reads their sheets, leafs through them, writes their tracks and reads lines, from
+ * C: every number that these calls give. All that is lent is lent in blocks of just
+ * its size.
  * Prints a line for each check that fails, and last the counts.
  */
 #include "lent.h"
+#include "lines.h"
 #include "tally.h"
 
 #include "bradawlet.h"
 
 #include <stdio.h>
+#include <stdlib.h>
 #include <string.h>
+
+#define COUNT(array) (sizeof(array) / sizeof(array)[0])
 
 enum { CELLS = 9, PLACES = 4, EXTRA = 5, RUBBISH = -559038737 };
 
@@ -187,18 +192,22 @@ static void check_queries(void)
     give_back(table);
 }
 
-/* Writes the sheet into so many bytes: it must answer this, and write the sheet or nothing. */
-static void check_write(const char *name, const int32_t *table, size_t words, size_t length,
-                        int32_t number, const uint8_t *sheet, size_t total)
+typedef int32_t writer(const int32_t *table, size_t words, uint8_t *bytes, size_t length,
+                       int32_t *total);
+
+/* Has a table written into so many bytes: the call must answer this, and write these bytes or
+   nothing. */
+static void check_written(const char *name, writer *call, const int32_t *table, size_t words,
+                          size_t length, int32_t number, const void *expected, size_t total)
 {
     size_t written = number == BRADAWLET_DONE ? total : 0;
     int32_t *lent = copy(table, words), *told = rubbish(1);
     uint8_t *bytes = lend(length);
     memset(bytes, 0xa5, length);
-    check(name, bradawlet_write(lent, words, bytes, length, told) == number);
+    check(name, call(lent, words, bytes, length, told) == number);
     check(name, *told == (int32_t)written);
     check(name, memcmp(lent, table, words * sizeof *table) == 0);
-    check(name, memcmp(bytes, sheet, written) == 0);
+    check(name, memcmp(bytes, expected, written) == 0);
     for (size_t i = written; i < length; i++)
         if (bytes[i] != 0xa5) {
             check(name, false);
@@ -207,6 +216,12 @@ static void check_write(const char *name, const int32_t *table, size_t words, si
     give_back(bytes);
     give_back(told);
     give_back(lent);
+}
+
+static void check_write(const char *name, const int32_t *table, size_t words, size_t length,
+                        int32_t number, const uint8_t *sheet, size_t total)
+{
+    check_written(name, bradawlet_write, table, words, length, number, sheet, total);
 }
 
 static void check_next(const char *name, const int32_t *table, size_t words, int32_t last,
@@ -314,6 +329,171 @@ static void check_sheets(void)
     check_reads(two);
 }
 
+static void check_tracks(const char *name, const int32_t *table, size_t words, size_t length,
+                         int32_t number, const char *text)
+{
+    check_written(name, bradawlet_tracks, table, words, length, number, text, strlen(text));
+}
+
+/* Into bytes of every length, some longer than the text. */
+static void check_all_lengths(const char *name, const int32_t *table, size_t words, const char *text)
+{
+    for (size_t length = 0; length < strlen(text) + EXTRA; length++)
+        check_tracks(name, table, words, length,
+                     length < strlen(text) ? BRADAWLET_SHORT_BYTES : BRADAWLET_DONE, text);
+}
+
+/* Reads bytes as a line: the cell that they give, or 14 and zeros where there is none. */
+static void check_bytes_read(const char *name, int32_t id, const void *bytes, size_t length,
+                             const int32_t *cell)
+{
+    static const int32_t none[BRADAWLET_RECORD];
+    int32_t *numbers = rubbish(BRADAWLET_RECORD);
+    uint8_t *line = lend(length);
+    memcpy(line, bytes, length);
+    check(name, bradawlet_read_track(id, line, length, numbers) ==
+                    (cell == NULL ? BRADAWLET_NO_TRACK : BRADAWLET_DONE));
+    check(name, memcmp(numbers, cell == NULL ? none : cell, sizeof none) == 0);
+    check(name, memcmp(line, bytes, length) == 0);
+    give_back(line);
+    give_back(numbers);
+}
+
+static void check_line_read(int32_t id, const char *line, const int32_t *cell)
+{
+    check_bytes_read(line, id, line, strlen(line), cell);
+}
+
+/* Expired, in the last minute, and two others, one as far out and as fast as can be. */
+static void check_texts(void)
+{
+    static const int32_t late[6] = {INT32_MAX, -837280, 0, 1, -512, 1440}, still[6] = {3, 0, 0, 7, 0, 11},
+                         expired[6] = {5, 0, 0, 0, 0, 9}, early[6] = {2, 1, 3, -1, 0, 10};
+    static const char three[] = "POINT M (310 -10 10)\n"
+                                "LINESTRING M (0 70 10, 0 70 11)\n"
+                                "LINESTRING M (-8372800 -51190 10, -8372800 -7372790 1440)\n";
+    const size_t words = BRADAWLET_WORDS(CELLS) + EXTRA;
+    int32_t *table = rubbish(words);
+
+    check_tracks("1: no tracks of rubbish", table, words, sizeof three, BRADAWLET_NOT_SOUND, "");
+    check_tracks("1: no tracks of rubbish, no bytes", table, words, 0, BRADAWLET_NOT_SOUND, "");
+    check_tracks("1: no tracks of no words", table, 0, sizeof three, BRADAWLET_NOT_SOUND, "");
+    check("a fresh table", bradawlet_fresh(table, words, CELLS) == BRADAWLET_DONE);
+    check_all_lengths("no tracks in a fresh table", table, words, "");
+    put(table, expired);
+    table[1] = 10;
+    check_all_lengths("no track of an expired cell", table, words, "");
+    put(table, late);
+    put(table, still);
+    put(table, early);
+    check_all_lengths("three tracks", table, words, three);
+    check_line_read(2, "POINT M (310 -10 10)\n", NULL);
+    check_line_read(3, "LINESTRING M (0 70 10, 0 70 11)\n", still);
+    check_line_read(INT32_MAX, "LINESTRING M (-8372800 -51190 10, -8372800 -7372790 1440)\n", late);
+    table[16 + 96 * table[2]] = 9;
+    check_tracks("1 before 13", table, words, 0, BRADAWLET_NOT_SOUND, "");
+    check_tracks("1: nine entries", table, words, sizeof three, BRADAWLET_NOT_SOUND, "");
+    give_back(table);
+}
+
+/* Little-endian words, as a sheet has them. */
+static uint8_t *put_words(uint8_t *bytes, const int32_t *numbers, size_t count)
+{
+    for (size_t i = 0; i < 4 * count; i++)
+        *bytes++ = (uint8_t)((uint32_t)numbers[i / 4] >> 8 * (i % 4));
+    return bytes;
+}
+
+/* As many of the longest lines as there can be. No report gives such a cell, so a sheet does. */
+static void check_longest(void)
+{
+    static const char longest[] = "LINESTRING M (-13492800 -13492800 1000, -15745600 -15745600 1440)\n";
+    static char text[BRADAWLET_TRACKS(256) + 1];
+    const int32_t header[4] = {256, 16, 1000, BRADAWLET_SHEET(256)};
+    const size_t words = BRADAWLET_WORDS(256);
+    int32_t *table = rubbish(words), cell[6] = {0, -837280, -512, -837280, -512, 1440};
+    uint8_t *sheet = lend(BRADAWLET_SHEET(256)), *record = put_words(sheet, header, 4);
+
+    for (cell[0] = 1; cell[0] <= 256; cell[0]++) {
+        record = put_words(record, cell, BRADAWLET_RECORD);
+        memcpy(text + BRADAWLET_TRACKS(cell[0] - 1), longest, BRADAWLET_TRACK);
+        check_bytes_read("the longest line", cell[0], longest, BRADAWLET_TRACK, cell);
+    }
+    check("the longest line", strlen(longest) == BRADAWLET_TRACK && strlen(text) == 16896);
+    check("256 far cells",
+          bradawlet_read(table, words, 256, sheet, BRADAWLET_SHEET(256)) == BRADAWLET_DONE);
+    check_tracks("256 longest lines", table, words, 16896, BRADAWLET_DONE, text);
+    check_tracks("256 longest lines, bytes left", table, words, 16896 + EXTRA, BRADAWLET_DONE, text);
+    check_tracks("13: a byte too few", table, words, 16895, BRADAWLET_SHORT_BYTES, text);
+    check_tracks("13: room for one line", table, words, BRADAWLET_TRACK, BRADAWLET_SHORT_BYTES, text);
+    give_back(sheet);
+    give_back(table);
+}
+
+static void check_lines(void)
+{
+    static const int32_t no_identifiers[] = {0, -1, -7, INT32_MIN};
+    for (size_t i = 0; i < COUNT(lines_with_cells); i++) {
+        const int32_t *cell = lines_with_cells[i].cell;
+        check_line_read(cell[0], lines_with_cells[i].line, cell);
+        for (size_t k = 0; k < COUNT(no_identifiers); k++)
+            check_line_read(no_identifiers[k], lines_with_cells[i].line, NULL);
+    }
+    for (size_t i = 0; i < COUNT(lines_with_wrong_numbers); i++)
+        check_line_read(7, lines_with_wrong_numbers[i], NULL);
+    for (size_t i = 0; i < COUNT(lines_spelt_otherwise); i++)
+        check_line_read(7, lines_spelt_otherwise[i], NULL);
+}
+
+/* A line cut short at every byte, from either side; with one byte changed; with one byte after it. */
+static void check_ends(void)
+{
+    static const char line[] = "LINESTRING M (1000 2000 10, 2500 1100 40)\n";
+    static const int32_t cell[BRADAWLET_RECORD] = {7, 50, 5, 230, -3, 40};
+    const size_t whole = sizeof line - 1;
+    uint8_t bytes[sizeof line];
+
+    check_bytes_read("a line", 7, line, whole, cell);
+    for (size_t length = 0; length < whole; length++) {
+        check_bytes_read("14: a line's first bytes", 7, line, length, NULL);
+        check_bytes_read("14: a line's last bytes", 7, line + whole - length, length, NULL);
+        memcpy(bytes, line, sizeof line);
+        bytes[length] = 0;
+        check_bytes_read("14: a zero in a line", 7, bytes, whole, NULL);
+        bytes[length] = (uint8_t)(line[length] ^ 0x80);
+        check_bytes_read("14: a bit too many", 7, bytes, whole, NULL);
+    }
+    for (int last = 0; last < 256; last++) {
+        memcpy(bytes, line, sizeof line);
+        bytes[whole] = (uint8_t)last;
+        check_bytes_read("14: a byte after the line", 7, bytes, sizeof line, NULL);
+        bytes[whole - 1] = (uint8_t)last;
+        check_bytes_read("the end of a line", 7, bytes, whole, last == '\n' ? cell : NULL);
+    }
+}
+
+/* A line with megabytes of one byte in it: before and after a number, between two, and at the ends. */
+static void check_endless(void)
+{
+    static const char line[] = "LINESTRING M (1000 2000 10, 2500 1100 40)\n";
+    static const struct {
+        size_t at;
+        char byte;
+    } more[] = {{0, ' '}, {14, '0'}, {14, '-'}, {18, '0'}, {18, ' '}, {26, '9'}, {40, '1'}, {42, '\n'}};
+    const size_t whole = sizeof line - 1, many = 4 << 20;
+    uint8_t *bytes = malloc(whole + many);
+    if (bytes == NULL)
+        lent_stop("no megabytes");
+    for (size_t i = 0; i < COUNT(more); i++) {
+        size_t at = more[i].at;
+        memcpy(bytes, line, at);
+        memset(bytes + at, more[i].byte, many);
+        memcpy(bytes + at + many, line + at, whole - at);
+        check_bytes_read("14: an endless line", 7, bytes, whole + many, NULL);
+    }
+    free(bytes);
+}
+
 /* Compares the table after a call with what it was: the clock is set, or not a word is touched. */
 static void check_left(const char *name, const int32_t *table, size_t words, int32_t *before,
                        int32_t number, int32_t minute)
@@ -365,6 +545,8 @@ static void check_desk_run(void)
     check("a fresh table", bradawlet_fresh(table, words, 256) == BRADAWLET_DONE);
     check_report("cell 7", table, words, (int32_t[7]){7, 100, 200, 5, -3, 10, 40}, 0);
     check_report("cell 9", table, words, (int32_t[7]){9, 0, 0, 3, 3, 10, 30}, 0);
+    check_all_lengths("two tracks", table, words,
+                      "LINESTRING M (1000 2000 10, 2500 1100 40)\nLINESTRING M (0 0 10, 600 600 30)\n");
     check_window("7 at 20", table, words, (int32_t[6]){20, 20, 150, 150, 170, 170}, 0, 7);
     check_window("9 at a third", table, words, (int32_t[6]){10, 11, 1, 1, 1, 1}, 0, 9);
     check_window("5: before 10", table, words, (int32_t[6]){9, 11, 0, 1, 0, 1}, 5, 0);
@@ -374,6 +556,7 @@ static void check_desk_run(void)
     check_drop("7 dropped", table, words, 7, 12, 0);
     check_window("9 alone", table, words, (int32_t[6]){12, 40, -500, 500, -500, 500}, 0, 9);
     check_window("7: transposed", table, words, (int32_t[6]){40, 12, 0, 1, 0, 1}, 7, 0);
+    check_all_lengths("the track of 9", table, words, "LINESTRING M (60 60 12, 600 600 30)\n");
     give_back(table);
 }
 
@@ -412,13 +595,13 @@ static void check_full(void)
     give_back(table);
 }
 
-/* No words, no list and no bytes may be null. */
+/* No words, no list, no bytes and no line may be null. */
 static void check_null(void)
 {
     static const int32_t none[BRADAWLET_RECORD];
     static const struct query whole = {0, 9, {-9, 9, -9, 9}, {-9, 9, -9, 9}};
     const size_t words = BRADAWLET_WORDS(CELLS);
-    int32_t *table = rubbish(words), *total = rubbish(1);
+    int32_t *table = rubbish(words), *total = rubbish(1), *numbers = rubbish(BRADAWLET_RECORD);
 
     check("2: fresh in no words", bradawlet_fresh(NULL, 0, 0) == BRADAWLET_BAD_CAPACITY);
     check("3: fresh in no words", bradawlet_fresh(NULL, 0, 1) == BRADAWLET_SHORT_TABLE);
@@ -431,6 +614,12 @@ static void check_null(void)
     check_next("a step over no words", NULL, 0, 0, BRADAWLET_NONE, none);
     check("1: no words written",
           bradawlet_write(NULL, 0, NULL, 0, total) == BRADAWLET_NOT_SOUND && *total == 0);
+    *total = RUBBISH;
+    check("1: no tracks of no words",
+          bradawlet_tracks(NULL, 0, NULL, 0, total) == BRADAWLET_NOT_SOUND && *total == 0);
+    check("14: no line", bradawlet_read_track(1, NULL, 0, numbers) == BRADAWLET_NO_TRACK);
+    check("14: no line", memcmp(numbers, none, sizeof none) == 0);
+    give_back(numbers);
     check("3: read into no words", bradawlet_read(NULL, 0, 1, NULL, 0) == BRADAWLET_SHORT_TABLE);
     check("11: no bytes read",
           bradawlet_read(table, words, CELLS, NULL, 0) == BRADAWLET_BAD_HEADER && all_rubbish(table, words));
@@ -438,11 +627,17 @@ static void check_null(void)
     check("a fresh table", bradawlet_fresh(table, words, CELLS) == BRADAWLET_DONE);
     check("no hits for no list", is(window(table, words, NULL, 0, whole), 0, 0, 1));
     check("no hits for no list", is(moving(table, words, NULL, 0, whole), 0, 0, 1));
+    *total = RUBBISH;
+    check("no tracks to no bytes",
+          bradawlet_tracks(table, words, NULL, 0, total) == BRADAWLET_DONE && *total == 0);
     check("a cell", bradawlet_report(table, words, 1, 0, 0, 0, 0, 0, 9) == BRADAWLET_DONE);
     check("10: a hit for no list", is(window(table, words, NULL, 0, whole), 10, 1, 0));
     check("10: a hit for no list", is(moving(table, words, NULL, 0, whole), 10, 1, 0));
     check("13: written to no bytes",
           bradawlet_write(table, words, NULL, 0, total) == BRADAWLET_SHORT_BYTES && *total == 0);
+    *total = RUBBISH;
+    check("13: a track to no bytes",
+          bradawlet_tracks(table, words, NULL, 0, total) == BRADAWLET_SHORT_BYTES && *total == 0);
     give_back(total);
     give_back(table);
 }
@@ -450,7 +645,7 @@ static void check_null(void)
 static void check_capacities(void)
 {
     static const int32_t capacities[] = {1, 2, 3, CELLS, 255, 256};
-    for (size_t i = 0; i < sizeof capacities / sizeof capacities[0]; i++) {
+    for (size_t i = 0; i < COUNT(capacities); i++) {
         size_t need = BRADAWLET_WORDS(capacities[i]);
         check_fresh(capacities[i], need - 1, BRADAWLET_SHORT_TABLE);
         check_fresh(capacities[i], need, BRADAWLET_DONE);
@@ -475,6 +670,11 @@ int main(void)
         check_capacities();
         check_queries();
         check_sheets();
+        check_texts();
+        check_longest();
+        check_lines();
+        check_ends();
+        check_endless();
         check_desk_run();
         check_full();
     }

@@ -10,7 +10,7 @@
 enum { CELLS = 4 };
 
 static int32_t table[BRADAWLET_WORDS(CELLS)], list[CELLS], cell[BRADAWLET_RECORD], hits, opened, total;
-static uint8_t bytes[BRADAWLET_SHEET(CELLS)];
+static uint8_t bytes[BRADAWLET_SHEET(CELLS)], text[BRADAWLET_TRACKS(CELLS)];
 static const size_t words = BRADAWLET_WORDS(CELLS);
 
 static void check_tables(void)
@@ -33,9 +33,19 @@ static void check_tables(void)
     check("read", bradawlet_read(table, words, CELLS, bytes, BRADAWLET_SHEET(1)) == BRADAWLET_DONE);
 }
 
+static void check_tracks(void)
+{
+    check("tracks", bradawlet_tracks(table, words, text, sizeof text, &total) == BRADAWLET_DONE);
+    check("tracks", total == 36 && BRADAWLET_TRACK == 66 && BRADAWLET_TRACKS(CELLS) == 264);
+    check("read_track", bradawlet_read_track(9, text, 36, cell) == BRADAWLET_DONE);
+    check("read_track", cell[0] == 9 && cell[1] == -30 && cell[5] == 30);
+    check("read_track", bradawlet_read_track(9, text, 35, cell) == BRADAWLET_NO_TRACK && cell[0] == 0);
+}
+
 int main(void)
 {
     check_tables();
+    check_tracks();
     check("sheet", bradawlet_sheet(bytes, BRADAWLET_SHEET(1)) == BRADAWLET_YES);
     check("meets", bradawlet_meets(1, 0, 0, 3, 3, 0, 40, 0, 1, 1, 1, 1, 1) == BRADAWLET_YES);
     check("meets_moving", bradawlet_meets_moving(1, 3, 0, 2, 0, 0, 40, 0, 10, 0, 2, 0, 0, 20, 22, 0, 0) ==

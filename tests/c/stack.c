@@ -26,7 +26,8 @@ enum { CAPACITY, CLOCK, ROOT, HEIGHT, HEADER = 16, NODE = 96, ENTRIES = 8, ENTRY
 
 static int32_t table[BRADAWLET_WORDS(CELLS)], other[BRADAWLET_WORDS(CELLS)];
 static int32_t list[CELLS], numbers[BRADAWLET_RECORD], hits, opened, total;
-static uint8_t bytes[BRADAWLET_SHEET(CELLS)];
+static uint8_t bytes[BRADAWLET_SHEET(CELLS)], text[BRADAWLET_TRACKS(CELLS)];
+static uint8_t line[1 << 20] = "LINESTRING M (-13492800 -13492800 1000, -15745600 -15745600 1440)\n";
 static const size_t words = BRADAWLET_WORDS(CELLS);
 
 /* The minute of the calls, the length of the sheet that is read, and what a call answered. */
@@ -91,6 +92,22 @@ static void call_read(void)
     answer = bradawlet_read(other, words, CELLS, bytes, length);
 }
 
+static void call_tracks(void)
+{
+    answer = bradawlet_tracks(table, words, text, sizeof text, &total);
+}
+
+static void call_read_track(void)
+{
+    answer = bradawlet_read_track(1, line, BRADAWLET_TRACK, numbers);
+}
+
+/* With a number of as many digits as there is room for. */
+static void call_read_long_track(void)
+{
+    answer = bradawlet_read_track(1, line, sizeof line, numbers);
+}
+
 static void call_meets(void)
 {
     answer = bradawlet_meets(1, -FAR, -FAR, 512, 511, 0, LAST, 0, LAST, 0, FAR, 0, FAR);
@@ -148,6 +165,7 @@ static void measure_all(int32_t expected)
     measure("open", call_open, expected);
     measure("next", call_next, expected == BRADAWLET_DONE ? BRADAWLET_ONE : BRADAWLET_NONE);
     measure("write", call_write, expected);
+    measure("tracks", call_tracks, expected);
     measure("read", call_read, BRADAWLET_DONE);
     measure("fresh", call_fresh, BRADAWLET_DONE);
 }
@@ -237,6 +255,9 @@ int main(void)
     measure("sheet", call_sheet, BRADAWLET_YES);
     check_greatest("BRADAWLET_VIEWER_STACK", BRADAWLET_VIEWER_STACK);
     measure("meets_moving", call_meets_moving, BRADAWLET_YES);
+    measure("read_track", call_read_track, BRADAWLET_DONE);
+    memset(line + 15, '1', sizeof line - 15);
+    measure("read_track, a long line", call_read_long_track, BRADAWLET_NO_TRACK);
     measure_all(BRADAWLET_DONE);
     make_deep();
     measure_all(BRADAWLET_DONE);

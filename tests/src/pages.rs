@@ -17,9 +17,11 @@ extern "C" {
         offset: i64,
     ) -> *mut c_void;
     fn mprotect(address: *mut c_void, length: usize, access: c_int) -> c_int;
+    fn munmap(address: *mut c_void, length: usize) -> c_int;
 }
 
 const NO_ACCESS: c_int = 0;
+const READ_ALONE: c_int = 1;
 const READ_AND_WRITE: c_int = 1 | 2;
 const PRIVATE_AND_OF_NO_FILE: c_int = 2 | 0x20;
 const NO_FILE: c_int = -1;
@@ -123,5 +125,51 @@ impl<T> DerefMut for Beside<T> {
 impl<T> Drop for Beside<T> {
     fn drop(&mut self) {
         FREE.with_borrow_mut(|free| free.push(self.pages));
+    }
+}
+
+/// More bytes than 32 bits can count: a few, and zeros after them that can be read and not written. They take
+/// no memory before they are read.
+pub struct Vast {
+    first: *mut u8,
+    length: usize,
+    few: usize,
+}
+
+impl Vast {
+    /// Nothing where the system has no room for them.
+    pub fn holding(few: &[u8], length: usize) -> Option<Vast> {
+        let written = few.len().next_multiple_of(GUARD);
+        assert!(written <= length, "few among many");
+        // New pages, which nothing else uses: the first of them are opened and written.
+        unsafe {
+            let pages = mmap(ptr::null_mut(), length, READ_ALONE, PRIVATE_AND_OF_NO_FILE, NO_FILE, 0);
+            if pages as isize == -1 {
+                return None;
+            }
+            assert!(mprotect(pages, written, READ_AND_WRITE) == 0, "no access");
+            let first = pages.cast::<u8>();
+            ptr::copy_nonoverlapping(few.as_ptr(), first, few.len());
+            Some(Vast { first, length, few: few.len() })
+        }
+    }
+
+    /// To be read, and written no farther than a call may write.
+    pub fn bytes(&mut self) -> &mut [u8] {
+        // So many are mapped, and the pages are its own.
+        unsafe { slice::from_raw_parts_mut(self.first, self.length) }
+    }
+
+    /// Those that were put there.
+    pub fn few(&mut self) -> &[u8] {
+        let few = self.few;
+        &self.bytes()[..few]
+    }
+}
+
+impl Drop for Vast {
+    fn drop(&mut self) {
+        // Nothing uses them any more.
+        unsafe { munmap(self.first.cast(), self.length) };
     }
 }

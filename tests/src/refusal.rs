@@ -18,6 +18,7 @@ pub const SHORT_LIST: i32 = 10;
 pub const BAD_HEADER: i32 = 11;
 pub const BAD_RECORD: i32 = 12;
 pub const SHORT_BYTES: i32 = 13;
+pub const NO_TRACK: i32 = 14;
 
 /// The desk's model calls it so.
 pub const LIST_TOO_SHORT: i32 = SHORT_LIST;

@@ -9,7 +9,7 @@ use crate::tables::model::Change;
 use crate::tables::sheet::RECORD_NUMBERS;
 use bradawlet::{Cell, Hits, Moving, NotListed, Refusal, Table, Window};
 
-pub const LIBRARY: Library = Library { fresh, change, query, write, read, open, next };
+pub const LIBRARY: Library = Library { fresh, change, query, write, read, open, next, tracks, read_track };
 
 /// The answer where two ways to ask for one thing differ: no family expects it.
 const UNLIKE: i32 = -1;
@@ -130,7 +130,35 @@ fn open(table: &mut [i32]) -> i32 {
 fn next(table: &mut [i32], last: i32, numbers: &mut [i32; RECORD_NUMBERS]) -> i32 {
     let next = Table::over(&*table).and_then(|table| table.cells_after(last).map(|mut cells| cells.next()));
     let found = next.unwrap_or(None);
-    *numbers =
-        found.map_or([0; RECORD_NUMBERS], |Cell { id, x, vx, y, vy, expiry }| [id, x, vx, y, vy, expiry]);
+    *numbers = found.map_or([0; RECORD_NUMBERS], record);
     i32::from(found.is_some())
+}
+
+fn record(cell: Cell) -> [i32; RECORD_NUMBERS] {
+    let Cell { id, x, vx, y, vy, expiry } = cell;
+    [id, x, vx, y, vy, expiry]
+}
+
+fn tracks(table: &mut [i32], bytes: &mut [u8]) -> Written {
+    let table = match Table::over(&*table) {
+        Ok(table) => table,
+        Err(refusal) => return Written { number: refusal.number(), total: 0 },
+    };
+    match table.write_tracks(bytes) {
+        Ok(total) if table.to_tracks().is_ok_and(|own| *own.as_bytes() == bytes[..total]) => {
+            Written { number: 0, total: total as i32 }
+        }
+        Ok(_) => Written { number: UNLIKE, total: 0 },
+        Err(refusal) => Written { number: refusal.number(), total: 0 },
+    }
+}
+
+/// The line is given as bytes and, where it is text, as text too. A refusal comes without numbers.
+fn read_track(id: i32, line: &mut [u8], numbers: &mut [i32; RECORD_NUMBERS]) -> i32 {
+    let read = bradawlet::read_track(id, &*line);
+    if std::str::from_utf8(line).is_ok_and(|text| bradawlet::read_track(id, text) != read) {
+        return UNLIKE;
+    }
+    *numbers = read.map_or([0; RECORD_NUMBERS], record);
+    number(&read)
 }

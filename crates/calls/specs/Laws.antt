@@ -1,3 +1,4 @@
 pub mod TableCalls
 pub mod SheetCalls
 pub mod ChangeCalls
+pub mod TrackCalls

@@ -1,4 +1,5 @@
 pub mod TableCalls
 pub mod SheetCalls
 pub mod ChangeCalls
+pub mod TrackCalls
 pub mod Laws

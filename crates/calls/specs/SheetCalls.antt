@@ -1,11 +1,11 @@
 -- The calls that hand out what a table holds, as their callers have them: the answer's number, and what is written through references.
 use mathlib.Core.Path.{_≡_}
 use mathlib.Core.List.{List}
-use Prim.Native.Nat.{ℕ, _≤_}
+use Prim.Native.Nat.{ℕ, _^_, _<_}
 use lib.IntN.{ℤ, pos}
+use Rattle.track.specs.Life.{noCell}
 use Rattle.track.specs.declared.cell.Cell.{Cell}
-use Rattle.table.specs.Header.{greatestCapacity}
-use Rattle.sheet.specs.Sheet.{totalFor, cellNumbers}
+use Rattle.sheet.specs.Sheet.{cellNumbers}
 use Rattle.leafing.specs.NextLive.{Steps}
 use Rattle.leafing.specs.declared.search.Next.{Next}
 use Rattle.leafing.specs.declared.search.Next.the-variants.{One, None}
@@ -17,7 +17,7 @@ use Rattle.sheet_write.specs.declared.Written.{Written}
 
 -- a total that fits a word
 pub record TotalFits (written : Written) : Type 0 where
-  pub small : writtenTotal written ≤ totalFor greatestCapacity
+  pub small : writtenTotal written < 2 ^ 31
 
 -- an answer in numbers: r is its own, total is its total
 pub record WrittenInNumbers (written : Written) (r total : ℤ) : Type 0 where
@@ -43,7 +43,7 @@ isGiven None = pos 0
 
 abbrev pub nextCell : Next → Cell
 nextCell (One c) = c
-nextCell None = record { id = pos 0; x = pos 0; vx = pos 0; y = pos 0; vy = pos 0; expiry = record { at = pos 0 } }
+nextCell None = noCell
 
 -- r and the numbers are a step of the leafing over the table w from `last` on
 pub record NextGives (w : List ℤ) (last r : ℤ) (numbers : List ℤ) : Type 0 where

@@ -19,6 +19,7 @@ ghost use Rattle.calls.specs.TableCalls.{FreshGives, InNumbers, WindowGi
 
 pub mod changes;
 pub mod sheets;
+pub mod tracks;
 
 // Whether the cell of a report meets a moving query: 1 for yes, 0 for no, else the refusal's number.
 #[no_mangle]

@@ -10,12 +10,13 @@ use track::cell::Cell;
 use track::minute::Minute;
 use words::word_of;
 ghost use mathlib.Core.Path.{_≡_};
+ghost use Rattle.track.specs.Life.{noCell};
 ghost use Rattle.track.specs.Refusals.{Gives};
 ghost use Rattle.leafing.specs.NextLive.{openingReasons};
 ghost use Rattle.calls.specs.SheetCalls.{TotalFits, WrittenInNumbers, WriteGives, ReadGives, nextCell, isGiven, NextGives};
 
 // Hands an answer's total over, and tells its number.
-fn written_in_numbers(written: Written, total: &mut i32) -> i32
+pub fn written_in_numbers(written: Written, total: &mut i32) -> i32
     requires { ⌜ TotalFits written ⌝ }
     ensures { λ r. ⌜ WrittenInNumbers written r (now (total .exit)) ⌝ }
 {
@@ -57,20 +58,27 @@ pub extern "C" fn bradawlet_open(table: &[i32]) -> i32
     opening_number(table)
 }
 
+// All zeros, where there is no cell.
+pub fn no_cell() -> Cell
+    ensures { λ r. ⌜ r ≡ noCell ⌝ }
+{
+    Cell {
+        id: 0,
+        x: 0,
+        vx: 0,
+        y: 0,
+        vy: 0,
+        expiry: Minute { at: 0 },
+    }
+}
+
 // The cell that was found, all zeros where there is none.
 fn next_cell(next: Next) -> Cell
     ensures { λ r. ⌜ r ≡ nextCell next ⌝ }
 {
     match next {
         Next::One(c) => c,
-        Next::None => Cell {
-            id: 0,
-            x: 0,
-            vx: 0,
-            y: 0,
-            vy: 0,
-            expiry: Minute { at: 0 },
-        },
+        Next::None => no_cell(),
     }
 }
 

@@ -3,4 +3,5 @@ pub mod Spells
 pub mod NumberRead
 pub mod NumberExamples
 pub mod Decimal
+pub mod SignedDecimal
 pub mod PutBytes

@@ -1,4 +1,4 @@
--- A number as it is read, in bytes of ASCII: an optional minus and one to nine digits.
+-- A number as `read_number` takes it, in bytes of ASCII: an optional minus and one to nine digits.
 use mathlib.Core.List.{List, [], _∷_, _++_}
 use Prim.Native.Nat.{ℕ, _+_, _*_, _≤_}
 use lib.IntN.{ℤ, pos, negℤ}

@@ -1,8 +1,9 @@
 // Words and numbers spelt into a lent buffer.
 ghost use mathlib.Core.Path.{_≡_};
-ghost use Prim.Native.Nat.{_+_, _≤_};
+ghost use Prim.Native.Nat.{_+_, _^_, _≤_};
 ghost use lib.ListN.{length};
-ghost use Rattle.decimal.specs.Decimal.{Decimal};
+ghost use Rattle.whole.specs.Within.{Within};
+ghost use Rattle.decimal.specs.Decimal.{Decimal, SignedDecimal};
 ghost use Rattle.decimal.specs.Inner.PutBytes.{EndsBy, Put, TheseBytes};
 
 fn digit_byte(d: usize) -> u8
@@ -36,4 +37,17 @@ pub fn put_decimal(out: &mut [u8], at: usize, n: usize) -> usize
     let last = put_decimal(out, at, n / 10);
     out[last] = digit_byte(n % 10);
     last + 1
+}
+
+// A whole number, with a minus before its digits where it is below 0. The least i32 has no size among them, so a range is asked.
+pub fn put_signed(out: &mut [u8], at: usize, z: i32) -> usize
+    requires { ⌜ (Within (2 ^ 30) z) × EndsBy (SignedDecimal z) at (length (now out)) ⌝ }
+    ensures { λ r. ⌜ Put (SignedDecimal z) (now (out .entry)) at (now (out .exit)) r ⌝ }
+{
+    if 0 <= z {
+        return put_decimal(out, at, words::place(z));
+    }
+    let size = words::place(-z);
+    out[at] = b'-';
+    put_decimal(out, at + 1, size)
 }

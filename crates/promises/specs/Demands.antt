@@ -1,15 +1,17 @@
--- The three demands, each in our words above the theorems that carry it. `Happens w c a v` is what the contracts promise of a call: on the words w the call c
+-- The three demands, each in our words above the theorems that carry it, and what the later requests ask to be shown. `Happens w c a v` is what the contracts promise of a call: on the words w the call c
 -- replies a and leaves the words v. The definitions are in `Happens` (calls, replies, runs, refusals) and `Model` (a plain model of a table), and in the crates that
 -- these cite; the laws that the proofs cite are in the other files.
 use mathlib.Core.Path.{_≡_, refl, sym, ap, _∙_, subst}
 use mathlib.Core.Logic.{_⊎_, _↔_}
 use mathlib.Core.List.{List, _∷_, _++_}
-use Prim.Native.Nat.{ℕ, _≤_}
-use lib.IntN.{ℤ, pos}
+use Prim.Native.Nat.{ℕ, _*_, _≤_}
+use lib.IntN.{ℤ, pos, natAbs}
 use lib.ListN.{length, take, drop}
+use lib.Signed.{_<ℤ_}
 use Rattle.whole.specs.Lists.{_∈_}
 use Rattle.words.specs.Words.{natOf}
-use Rattle.track.specs.Life.{identifier}
+use Rattle.track.specs.Numbers.{IsMinute}
+use Rattle.track.specs.Life.{identifier, noCell, CellInRange}
 use Rattle.track.specs.Refusals.{First, Gives}
 use Rattle.track.specs.Laws.Refusals.{first-fixed}
 use Rattle.track.specs.declared.cell.Cell.{Cell}
@@ -20,20 +22,30 @@ use Rattle.table.specs.Sound.{held, Sound, Live}
 use Rattle.query.specs.Hits.{Hits}
 use Rattle.query.specs.Opened.{openedNodes}
 use Rattle.leafing.specs.NextLive.{openingReasons}
+use Rattle.leafing.specs.Leafed.{LiveCells}
 use Rattle.leafing.specs.Laws.NextLive.{same-by}
+use Rattle.leafing.specs.Laws.LiveCells.{live-in-range}
 use Rattle.leafing.specs.declared.search.Next.{Next}
 use Rattle.leafing.specs.declared.search.Next.the-variants.{None}
 use Rattle.sheet.specs.Bytes.{AreBytes}
 use Rattle.sheet.specs.Sheet.{totalFor, cellNumbers}
+use Rattle.wkt.specs.TrackLine.{PointForm, LineOf}
+use Rattle.wkt.specs.TrackRead.{ReadsAs, trackReasons, trackNumber}
+use Rattle.wkt.specs.declared.point.Point.{Point}
+use Rattle.wkt.specs.Laws.TrackLine.{line-length}
+use Rattle.wkt.specs.Laws.TrackRead.{gives-in-range, track-back, line-back, point-not-read}
+use Rattle.charting.specs.Charted.{TextOf}
+use Rattle.charting.specs.Laws.Charted.{charted-within}
 use Rattle.tree.specs.Steps.{outcomeNumber}
 use Rattle.alike.specs.Alike.{Alike}
 use Rattle.calls.specs.TableCalls.{FreshGives, QueryGives, WindowGives, MovingGives}
 use Rattle.calls.specs.ChangeCalls.{ReportGives, DropGives}
+use Rattle.calls.specs.TrackCalls.{TracksGives, ReadTrackGives}
 use Rattle.calls.specs.SheetCalls.{WriteGives, ReadGives, isGiven, nextCell, NextGives}
-use Rattle.promises.specs.Happens.{Call, Fresh, Report, Drop, Window, Moving, Open, Leaf, Write, Read, Reply, Number, Listed, Given, Bytes, told, Happens, Run, reasonsOf, ChangesNothing, IsQuery, GoesBack, OnlyReads}
+use Rattle.promises.specs.Happens.{Call, Fresh, Report, Drop, Window, Moving, Open, Leaf, Write, Chart, Read, Reply, Number, Listed, Given, Bytes, told, Happens, Run, reasonsOf, ChangesNothing, IsQuery, GoesBack, OnlyReads}
 use Rattle.promises.specs.Model.{Model, Together, afterAll, Start, capacityAfter, Sized}
 use Rattle.promises.specs.Laws.Refused.{call-number, only-reads, call-refused, backward}
-use Rattle.promises.specs.Laws.Replies.{query-lists, query-counts, written-back, read-back, asked-in-numbers, wrote-in-numbers, opened-is}
+use Rattle.promises.specs.Laws.Replies.{totalTold, query-lists, query-counts, written-back, read-back, asked-in-numbers, wrote-in-numbers, charted-is, track-given, track-refused, track-accepted, opened-is}
 use Rattle.promises.specs.Laws.Together.{start-together, run-together, call-size, run-length}
 use Rattle.promises.specs.Laws.Same.{model-alike, call-alike, run-alike, reached-alike, exchanged-alike}
 
@@ -48,7 +60,7 @@ module _ (w : List ℤ) (c : Call) (a : Reply) (v : List ℤ) (happens : Happens
   pub refusal-changes-nothing : (told a ≡ 0 → ⊥) → ChangesNothing w c a v
   refusal-changes-nothing refused = call-refused c a happens refused
 
-  -- A query, the opening of a leafing, a step of it and the writing of a sheet leave the table as it was in any case.
+  -- A query, the opening of a leafing, a step of it and the writing of a sheet or of tracks leave the table as it was in any case.
   pub reading-changes-no-table : OnlyReads c → v ≡ w
   reading-changes-no-table only = only-reads a only happens
 
@@ -120,6 +132,51 @@ pub reports-can-change-places : {r s : track.Report} {w t t′ : List ℤ} {furt
     → Run w (Report s ∷ Report r ∷ further) (Number 0 ∷ Number 0 ∷ replies′) t′ → (replies ≡ replies′) × Alike t t′
 reports-can-change-places differ minute run run′ = exchanged-alike differ minute run run′
 
+-- ==== Tracks for the map desk. The live cells are written as lines of text, and a line of two points gives its cell back. Reading a line is no call on a table:
+-- `ReadTrackGives` is what the exported call ensures of the number r and the six numbers that it gives.
+-- An accepted writing leaves the lines of the live cells, by rising identifier, in the first bytes, and the bytes behind as they were.
+pub tracks-are-of-the-live-cells : {w u : List ℤ} {buffer bytes : List ℕ} {total : ℕ} → Happens w (Chart buffer) (Bytes 0 total bytes) u
+    → (cells : List Cell) × (text : List ℕ) × LiveCells w cells × TextOf (clock w) cells text × (total ≡ length text) × (bytes ≡ text ++ drop total buffer)
+tracks-are-of-the-live-cells wrote = let c = charted-is wrote in (c .cells, c .text, c .live, c .is-text, c .total-is, c .written)
+
+-- The line of a live cell of a sound table that is not in its last minute, read with its identifier, gives the cell.
+pub track-read-back-gives-the-cell : {w : List ℤ} {c : Cell} {line : List ℕ} {r : ℤ} {numbers : List ℤ} → Sound w → Live w c → clock w <ℤ c .expiry .at
+    → LineOf (clock w) c line → ReadTrackGives (c .id) line r numbers → (r ≡ pos 0) × (numbers ≡ cellNumbers c)
+track-read-back-gives-the-cell sound live before line reads = track-given reads (track-back (live-in-range sound live) (sound .clock-in) before line)
+
+-- An accepted line is that of the cell that it gives, at a minute before its expiry, byte for byte; and the cell has the identifier that was given.
+pub accepted-track-is-the-cells-line : {id r : ℤ} {line : List ℕ} {numbers : List ℤ} → ReadTrackGives id line r numbers → r ≡ pos 0
+    → (c : Cell) × (minute : ℤ) × (numbers ≡ cellNumbers c) × (c .id ≡ id) × CellInRange c × IsMinute minute × (minute <ℤ c .expiry .at) × LineOf minute c line
+accepted-track-is-the-cells-line reads accepted =
+    let a = track-accepted reads accepted in
+    let read = a .1 in
+    let g = read .gives in
+    (a .0, read .first .minute, a .2, g .identifier-is, gives-in-range g, g .first-minute-in, subst (λ (t : ℤ). read .first .minute <ℤ t) (sym (g .expiry-is)) (g .in-order), line-back read)
+
+-- Reading's number is 14 exactly when line and identifier give no cell, and 0 exactly when they give one: this number and no other.
+pub track-number-exactly-when : {id r : ℤ} {line : List ℕ} {numbers : List ℤ} → ReadTrackGives id line r numbers → (n : ℕ) → (r ≡ pos n) ↔ First (trackReasons id line) n
+track-number-exactly-when {id} {line} g n =
+    let told-is = g .reads .refusal in
+    (λ is. subst (First (trackReasons id line)) (ap natAbs (sym (g .number-is) ∙ is)) told-is, λ first. g .number-is ∙ ap pos (first-fixed (trackReasons id line) (trackNumber (g .read)) n told-is first))
+
+-- A line that gives a cell gives its numbers; one that gives none gives zeros.
+pub track-numbers-are-the-cells : {id r : ℤ} {line : List ℕ} {numbers : List ℤ} {c : Cell} → ReadTrackGives id line r numbers → ReadsAs id line c → (r ≡ pos 0) × (numbers ≡ cellNumbers c)
+track-numbers-are-the-cells reads read = track-given reads read
+
+pub refused-track-gives-zeros : {id r : ℤ} {line : List ℕ} {numbers : List ℤ} → ReadTrackGives id line r numbers → ((c : Cell) → ReadsAs id line c → ⊥) → (r ≡ pos 14) × (numbers ≡ cellNumbers noCell)
+refused-track-gives-zeros reads none = track-refused reads none
+
+-- A line of one point is refused, whatever its numbers and the identifier.
+pub point-line-is-refused : {id r : ℤ} {p : Point} {line : List ℕ} {numbers : List ℤ} → PointForm p line → ReadTrackGives id line r numbers → r ≡ pos 14
+point-line-is-refused form reads = track-refused reads (λ c read. point-not-read form read) .0
+
+-- No line is longer than 66 bytes, and no text than 66 for each cell that the table is for.
+pub track-is-at-most-66-bytes : {w : List ℤ} {c : Cell} {line : List ℕ} → Sound w → Live w c → LineOf (clock w) c line → length line ≤ 66
+track-is-at-most-66-bytes sound live line = line-length (live-in-range sound live) (sound .clock-in) line
+
+pub tracks-are-at-most-66-bytes-each : {w u : List ℤ} {buffer bytes : List ℕ} {n total : ℕ} → Happens w (Chart buffer) (Bytes n total bytes) u → total ≤ 66 * natOf (capacityWord w)
+tracks-are-at-most-66-bytes-each {w} h = subst (λ (t : ℕ). t ≤ 66 * natOf (capacityWord w)) (sym (ap totalTold (h .reply))) (charted-within (h .written) (h .writes))
+
 -- ==== The exported calls do what `Happens` says, so all of this holds of them. From what each ensures of its result r, of what it writes and of the table there
 -- is a reply in these numbers; a table that is lent for reading only is left as it was.
 pub fresh-happens : {cells r : ℤ} {w v : List ℤ} → FreshGives cells w r v → (n : ℕ) × (r ≡ pos n) × Happens w (Fresh cells) (Number n) v
@@ -154,7 +211,11 @@ next-happens g = (g .next, g .number-is, g .record-is, record { next = g .next; 
 
 pub write-happens : {w : List ℤ} {bytes bytes′ : List ℕ} {r total : ℤ} → WriteGives w bytes r total bytes′
     → (n : ℕ) × (t : ℕ) × (r ≡ pos n) × (total ≡ pos t) × Happens w (Write bytes) (Bytes n t bytes′) w
-write-happens g = wrote-in-numbers g
+write-happens {bytes′} g = wrote-in-numbers (g .written) bytes′ (g .writes) (g .in-numbers)
+
+pub tracks-happens : {w : List ℤ} {bytes bytes′ : List ℕ} {r total : ℤ} → TracksGives w bytes r total bytes′
+    → (n : ℕ) × (t : ℕ) × (r ≡ pos n) × (total ≡ pos t) × Happens w (Chart bytes) (Bytes n t bytes′) w
+tracks-happens {bytes′} g = wrote-in-numbers (g .written) bytes′ (g .charts) (g .in-numbers)
 
 pub read-happens : {cells r : ℤ} {w v : List ℤ} {bytes : List ℕ} → ReadGives cells w bytes r v → (n : ℕ) × (r ≡ pos n) × Happens w (Read cells bytes) (Number n) v
 read-happens g = (outcomeNumber (g .outcome), g .number-is, record { outcome = g .outcome; reply = refl; reads = g .reads })

@@ -16,6 +16,7 @@ use Rattle.leafing.specs.declared.search.Next.{Next}
 use Rattle.leafing.specs.declared.search.Next.the-variants.{None}
 use Rattle.sheet_write.specs.Written.{writtenNumber, writtenTotal, writeReasons, WritesSheet}
 use Rattle.sheet_write.specs.declared.Written.{Written}
+use Rattle.charting.specs.Charted.{chartReasons, ChartsTracks}
 use Rattle.sheet_read.specs.Reads.{readReasons, ReadsSheet}
 use Rattle.tree.specs.declared.outcome.Outcome.{Outcome}
 
@@ -29,6 +30,7 @@ pub data Call : Type 0 where
   Open : Call
   Leaf : (last : ℤ) → Call
   Write : (bytes : List ℕ) → Call
+  Chart : (bytes : List ℕ) → Call
   Read : (cells : ℤ) (bytes : List ℕ) → Call
 
 -- a reply with all that is given back but the table and the count of opened nodes, which alone may depend on the tree
@@ -88,11 +90,12 @@ pub record WasStepped (w : List ℤ) (last : ℤ) (a : Reply) (v : List ℤ) : T
   pub steps : Steps w last next
   pub unchanged : v ≡ w
 
-pub record WasWritten (w : List ℤ) (bytes : List ℕ) (a : Reply) (v : List ℤ) : Type 0 where
+-- a sheet, or lines of tracks: `Writes` says with which answer, and what the lent bytes hold afterwards
+pub record WasWritten (w : List ℤ) (Writes : Written → List ℕ → Type 0) (a : Reply) (v : List ℤ) : Type 0 where
   pub written : Written
   pub bytes′ : List ℕ
   pub reply : a ≡ Bytes (writtenNumber written) (writtenTotal written) bytes′
-  pub writes : WritesSheet w bytes written bytes′
+  pub writes : Writes written bytes′
   pub unchanged : v ≡ w
 
 pub record WasRead (w : List ℤ) (cells : ℤ) (bytes : List ℕ) (a : Reply) (v : List ℤ) : Type 0 where
@@ -108,7 +111,8 @@ Happens w (Window q list) a v = WasAsked w (EndsBeforeStart q) (still q) list a 
 Happens w (Moving q list) a v = WasAsked w (EndsByStart q) q list a v
 Happens w Open a v = WasOpened w a v
 Happens w (Leaf last) a v = WasStepped w last a v
-Happens w (Write bytes) a v = WasWritten w bytes a v
+Happens w (Write bytes) a v = WasWritten w (WritesSheet w bytes) a v
+Happens w (Chart bytes) a v = WasWritten w (ChartsTracks w bytes) a v
 Happens w (Read cells bytes) a v = WasRead w cells bytes a v
 
 -- ---- one call after the other
@@ -127,6 +131,7 @@ reasonsOf w (Moving q list) = reasons w (EndsByStart q) q list
 reasonsOf w Open = openingReasons w
 reasonsOf w (Leaf last) = []
 reasonsOf w (Write bytes) = writeReasons w bytes
+reasonsOf w (Chart bytes) = chartReasons w bytes
 reasonsOf w (Read cells bytes) = readReasons cells w bytes
 
 -- the reply of a call that is refused by n and gives so many hits
@@ -139,6 +144,7 @@ refusedBy (Moving q list) n hits = Listed n hits list
 refusedBy Open n hits = Number n
 refusedBy (Leaf last) n hits = Given None
 refusedBy (Write bytes) n hits = Bytes n 0 bytes
+refusedBy (Chart bytes) n hits = Bytes n 0 bytes
 refusedBy (Read cells bytes) n hits = Number n
 
 -- what is left of a refused call
@@ -166,3 +172,4 @@ pub data OnlyReads : Call → Type 0 where
   opening : OnlyReads Open
   step : {last : ℤ} → OnlyReads (Leaf last)
   writing : {bytes : List ℕ} → OnlyReads (Write bytes)
+  charting : {bytes : List ℕ} → OnlyReads (Chart bytes)

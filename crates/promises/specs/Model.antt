@@ -13,7 +13,7 @@ use Rattle.track.specs.declared.cell.Cell.{Cell}
 use Rattle.table.specs.Header.{capacityWord, clock}
 use Rattle.table.specs.Sound.{Sound, Live}
 use Rattle.sheet.specs.Sheet.{clockOf, cellsOf}
-use Rattle.promises.specs.Happens.{Call, Fresh, Report, Drop, Window, Moving, Open, Leaf, Write, Read, Reply, Number, told, Happens}
+use Rattle.promises.specs.Happens.{Call, Fresh, Report, Drop, Window, Moving, Open, Leaf, Write, Chart, Read, Reply, Number, told, Happens}
 
 pub record Model : Type 0 where
   pub clock : ℤ
@@ -56,6 +56,7 @@ accepted m (Moving q list) = m
 accepted m Open = m
 accepted m (Leaf last) = m
 accepted m (Write bytes) = m
+accepted m (Chart bytes) = m
 accepted m (Read cells bytes) = ofSheet bytes
 
 -- by a call with this number: a refusal leaves it as it is
@@ -84,6 +85,7 @@ acceptedCapacity n (Moving q list) = n
 acceptedCapacity n Open = n
 acceptedCapacity n (Leaf last) = n
 acceptedCapacity n (Write bytes) = n
+acceptedCapacity n (Chart bytes) = n
 acceptedCapacity n (Read cells bytes) = cells
 
 abbrev pub capacityAfter : ℤ → Call → ℕ → ℤ

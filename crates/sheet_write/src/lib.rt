@@ -11,7 +11,7 @@ ghost use Rattle.table.specs.Sound.{Sound};
 ghost use Rattle.sheet_write.specs.Written.{WritesSheet};
 ghost use Rattle.sheet_write.specs.Inner.Passes.{CellsCounted, CanPutSheet, PutsSheet};
 
-// The total length of the sheet that was written, or why none was.
+// The total length of what was written of a table, a sheet or its text, or why nothing was.
 pub enum Written {
     Total(usize),
     Refused(Refusal),

@@ -1,11 +1,15 @@
 -- A cell by its identifier, its ranges and its life, which ends with the expiry minute.
-use lib.IntN.{ℤ}
+use lib.IntN.{ℤ, pos}
 use lib.Signed.{_≤ℤ_}
 use Rattle.track.specs.Numbers.{IsVelocity, IsMinute, IsKept, IsIdentifier}
 use Rattle.track.specs.declared.cell.Cell.{Cell}
 
 abbrev pub identifier : Cell → ℤ
 identifier c = c .id
+
+-- all zeros: what stands beside a refusal's number, and where no cell is left
+abbrev pub noCell : Cell
+noCell = record { id = pos 0; x = pos 0; vx = pos 0; y = pos 0; vy = pos 0; expiry = record { at = pos 0 } }
 
 -- the cell's expiry is not before the minute
 abbrev pub LivesAt : ℤ → Cell → Type 0

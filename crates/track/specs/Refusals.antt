@@ -7,7 +7,7 @@ use Prim.Native.Nat.{ℕ, zero, suc}
 use lib.Dec.{ltb}
 use lib.IntN.{ℤ, pos}
 use Rattle.track.specs.declared.refusal.Refusal.{Refusal}
-use Rattle.track.specs.declared.refusal.Refusal.the-variants.{NotSound, BadCapacity, ShortTable, OutOfRange, BeforeClock, ExpiresFirst, Backward, NotLive, Full, ShortList, BadHeader, BadRecord, ShortBytes}
+use Rattle.track.specs.declared.refusal.Refusal.the-variants.{NotSound, BadCapacity, ShortTable, OutOfRange, BeforeClock, ExpiresFirst, Backward, NotLive, Full, ShortList, BadHeader, BadRecord, ShortBytes, NoTrack}
 
 abbrev pub number : Refusal → ℕ
 number NotSound = 1
@@ -23,6 +23,7 @@ number ShortList = 10
 number BadHeader = 11
 number BadRecord = 12
 number ShortBytes = 13
+number NoTrack = 14
 
 -- a number, and what it is given for
 infix 70 _when_

@@ -2,9 +2,10 @@
 use mathlib.Core.List.{List, [], _∷_}
 use mathlib.Core.Path.{_≡_}
 use Prim.Native.Nat.{ℕ}
-use lib.IntN.{ℤ, pos}
+use lib.IntN.{ℤ}
 use lib.Signed.{_<ℤ_}
 use Rattle.track.specs.Numbers.{IsMinute, IsIdentifier, IsPosition, IsVelocity, kept}
+use Rattle.track.specs.Life.{noCell}
 use Rattle.track.specs.Refusals.{Reason, _when_, First, number}
 use Rattle.track.specs.declared.cell.Cell.{Cell}
 use Rattle.track.specs.declared.cell.Reported.{Reported}
@@ -50,7 +51,7 @@ reportNumber (Refused why) = number why
 
 abbrev pub reportCell : Reported → Cell
 reportCell (Kept c) = c
-reportCell (Refused why) = record { id = pos 0; x = pos 0; vx = pos 0; y = pos 0; vy = pos 0; expiry = record { at = pos 0 } }
+reportCell (Refused why) = noCell
 
 pub record Reports (clock : ℤ) (r : Report) (answer : Reported) : Type 0 where
   pub refusal : First (reportReasons clock r) (reportNumber answer)

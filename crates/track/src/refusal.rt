@@ -17,6 +17,7 @@ pub enum Refusal {
     BadHeader,
     BadRecord,
     ShortBytes,
+    NoTrack,
 }
 
 impl Refusal {
@@ -37,6 +38,7 @@ impl Refusal {
             Refusal::BadHeader => 11,
             Refusal::BadRecord => 12,
             Refusal::ShortBytes => 13,
+            Refusal::NoTrack => 14,
         }
     }
 

@@ -5,3 +5,4 @@ pub mod Rising
 pub mod Tells
 pub mod Within
 pub mod Times
+pub mod Quotients

@@ -1,5 +1,6 @@
-//! Compares the calls of libbradawlet.a over tables with a plain scan and a judge of their own. With the
-//! argument `opened` it compares nothing, and counts the nodes that queries open over a day.
+//! Compares the calls of libbradawlet.a over tables with a plain scan and a judge of their own. With an
+//! argument it compares nothing: `opened` counts the nodes that queries open over a day, `lines` prints lines
+//! of well-known text for other readers, and `writing` times a table's text beside its sheet.
 //!
 //! The calls are declared here once more, and not asked through the crate: what is lent to them is no table
 //! at times, and lies beside pages without access.
@@ -11,7 +12,7 @@ use outside::question::{Kind, Report, QUERY_NUMBERS};
 use outside::tables::library::{Answer, Library, Written};
 use outside::tables::model::Change;
 use outside::tables::sheet::RECORD_NUMBERS;
-use outside::tables::{families, opened};
+use outside::tables::{families, lines, opened, writing};
 use std::process::ExitCode;
 
 extern "C" {
@@ -78,6 +79,16 @@ extern "C" {
     fn bradawlet_open(table: *const i32, words: usize) -> i32;
 
     fn bradawlet_next(table: *const i32, words: usize, last: i32, numbers: *mut i32) -> i32;
+
+    fn bradawlet_tracks(
+        table: *const i32,
+        words: usize,
+        bytes: *mut u8,
+        length: usize,
+        total: *mut i32,
+    ) -> i32;
+
+    fn bradawlet_read_track(id: i32, line: *const u8, length: usize, numbers: *mut i32) -> i32;
 }
 
 fn fresh(table: &mut [i32], cells: i32) -> i32 {
@@ -170,14 +181,33 @@ fn next(table: &mut [i32], last: i32, numbers: &mut [i32; RECORD_NUMBERS]) -> i3
     unsafe { bradawlet_next(table.as_mut_ptr(), table.len(), last, numbers.as_mut_ptr()) }
 }
 
+fn tracks(table: &mut [i32], bytes: &mut [u8]) -> Written {
+    let (words, length) = (table.len(), bytes.len());
+    // No call answers it, so that it must be written.
+    let mut total = Beside::holding(&[-77], Side::by(length as i32));
+    let (table, bytes) = (table.as_mut_ptr(), bytes.as_mut_ptr());
+    // Table and bytes are ours, apart from each other, and lent with their lengths.
+    let number = unsafe { bradawlet_tracks(table, words, bytes, length, total.as_mut_ptr()) };
+    Written { number, total: total[0] }
+}
+
+fn read_track(id: i32, line: &mut [u8], numbers: &mut [i32; RECORD_NUMBERS]) -> i32 {
+    // Both are ours, apart from each other; the second has room for a record's numbers.
+    unsafe { bradawlet_read_track(id, line.as_mut_ptr(), line.len(), numbers.as_mut_ptr()) }
+}
+
+fn printed(print: fn(&Library), library: &Library) -> ExitCode {
+    print(library);
+    ExitCode::SUCCESS
+}
+
 fn main() -> ExitCode {
-    let library = Library { fresh, change, query, write, read, open, next };
+    let library = Library { fresh, change, query, write, read, open, next, tracks, read_track };
     match std::env::args().nth(1).as_deref() {
         None => families::run(&library).report(),
-        Some("opened") => {
-            opened::print(&library);
-            ExitCode::SUCCESS
-        }
+        Some("opened") => printed(opened::print, &library),
+        Some("lines") => printed(lines::print, &library),
+        Some("writing") => printed(writing::print, &library),
         Some(other) => {
             eprintln!("no such argument: {other}");
             ExitCode::FAILURE

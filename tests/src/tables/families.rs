@@ -3,12 +3,14 @@
 
 mod answered;
 mod changed;
+mod charted;
 mod damaged;
 mod fresh;
 mod leafed;
 mod read;
 mod rubbish;
 mod sound;
+mod tracked;
 mod written;
 
 use super::library::Library;
@@ -25,6 +27,8 @@ pub fn run(library: &Library) -> Tally {
     written::run(library, &mut tally);
     read::run(library, &mut tally);
     leafed::run(library, &mut tally);
+    charted::run(library, &mut tally);
+    tracked::run(library, &mut tally);
     changed::run(library, &mut tally);
     tally
 }

@@ -15,7 +15,7 @@ pub struct Answer {
     pub opened: i32,
 }
 
-/// What writing a sheet answers.
+/// What writing a sheet or a text answers.
 #[derive(Clone, Copy, Debug, PartialEq, Eq)]
 pub struct Written {
     pub number: i32,
@@ -33,6 +33,9 @@ pub struct Library {
     pub open: fn(&mut [i32]) -> i32,
     /// From an identifier on, with room for a record's numbers.
     pub next: fn(&mut [i32], i32, &mut [i32; RECORD_NUMBERS]) -> i32,
+    pub tracks: fn(&mut [i32], &mut [u8]) -> Written,
+    /// With an identifier and a line, which is lent for writing as tables are.
+    pub read_track: fn(i32, &mut [u8], &mut [i32; RECORD_NUMBERS]) -> i32,
 }
 
 /// Words or bytes that are lent, with pages without access next to them on one side, and on the other

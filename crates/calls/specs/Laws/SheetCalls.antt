@@ -12,18 +12,21 @@ use Rattle.tree.specs.declared.outcome.Outcome.{Outcome}
 use Rattle.sheet_write.specs.Written.{writtenNumber, writtenTotal}
 use Rattle.sheet_write.specs.Laws.Written.{written-same}
 use Rattle.sheet_write.specs.declared.Written.{Written}
-use Rattle.calls.specs.SheetCalls.{WriteGives, ReadGives, isGiven, nextCell, NextGives}
+use Rattle.calls.specs.SheetCalls.{WrittenInNumbers, WriteGives, ReadGives, isGiven, nextCell, NextGives}
+
+-- one answer has one number and one total
+pub numbers-fixed : {a b : Written} {r total s total₂ : ℤ} → a ≡ b → WrittenInNumbers a r total → WrittenInNumbers b s total₂ → (r ≡ s) × (total ≡ total₂)
+numbers-fixed e m n = (
+  m .number-is ∙ ap (λ (a : Written). pos (writtenNumber a)) e ∙ sym (n .number-is),
+  m .total-is ∙ ap (λ (a : Written). pos (writtenTotal a)) e ∙ sym (n .total-is),
+)
 
 pub write-fixed : {w : List ℤ} {bytes : List ℕ} {r total : ℤ} {bytes′ : List ℕ} {s total₂ : ℤ} {bytes″ : List ℕ}
     → WriteGives w bytes r total bytes′ → WriteGives w bytes s total₂ bytes″ → (r ≡ s) × (total ≡ total₂) × (bytes′ ≡ bytes″)
 write-fixed f g =
     let same = written-same refl (λ c. (λ x. x, λ x. x)) (λ x. x, λ x. x) (f .writes) (g .writes) in
-    let m = f .in-numbers in
-    let n = g .in-numbers in (
-      m .number-is ∙ ap (λ (a : Written). pos (writtenNumber a)) (same .0) ∙ sym (n .number-is),
-      m .total-is ∙ ap (λ (a : Written). pos (writtenTotal a)) (same .0) ∙ sym (n .total-is),
-      same .1,
-    )
+    let numbers = numbers-fixed (same .0) (f .in-numbers) (g .in-numbers) in
+    (numbers .0, numbers .1, same .1)
 
 pub read-number-fixed : {cells : ℤ} {w : List ℤ} {bytes : List ℕ} {r s : ℤ} {u v : List ℤ} → ReadGives cells w bytes r u → ReadGives cells w bytes s v → r ≡ s
 read-number-fixed f g = f .number-is ∙ ap (λ (o : Outcome). pos (outcomeNumber o)) (read-fixed (f .reads) (g .reads)) ∙ sym (g .number-is)

@@ -36,7 +36,7 @@ decimal-short (suc k) (and-digit {d} {s} g some few) small =
     omega (arith, last-long s (48 + d), decimal-short k g (omega arith))
 
 -- ---- read back
-decimal-digits : {n : ℕ} {s : List ℕ} → Decimal n s → Digits n s
+pub decimal-digits : {n : ℕ} {s : List ℕ} → Decimal n s → Digits n s
 decimal-digits (one-digit {d} h) = let alone : 10 * 0 + d ≡ d = omega arith in rw alone at (spells.and-digit no-digits h)
 decimal-digits (and-digit g some few) = spells.and-digit (decimal-digits g) few
 

@@ -4,11 +4,16 @@ use mathlib.Core.List.{List, [], _∷_, _++_}
 use Prim.Native.Nat.{ℕ, _+_, _/_, _%_, _^_, _≤_, _<_}
 use native.Mathlib.Numerals.{add-one}
 use native.Mathlib.Omega.{arith}
-use lib.ListN.{length, getD, take, set, length-append}
-use lib.Seq.{take-suc, take-length}
+use lib.IntN.{ℤ, pos, negℤ}
+use lib.ListN.{length, getD, take, drop, set, length-append}
+use lib.Seq.{take-suc, take-length, take-append-le, take-all}
+use lib.Signed.{_≤ℤ_, _<ℤ_}
+use Rattle.words.specs.Words.{natOf}
+use Rattle.words.specs.Parts.{put}
 use Rattle.words.specs.Laws.Parts.{length-put, put-beside, set-is-put, put-none}
-use Rattle.decimal.specs.Decimal.{Decimal, one-digit}
+use Rattle.decimal.specs.Decimal.{Decimal, one-digit, SignedDecimal}
 use Rattle.decimal.specs.Laws.Decimal.{last-of, decimal-short}
+use Rattle.decimal.specs.Laws.SignedDecimal.{signed-some, signed-exists, signed-plain, signed-minus}
 use Rattle.decimal.specs.Inner.PutBytes.{EndsBy, Put, TheseBytes}
 
 module _ {P : List ℕ → Type 0} {before after : List ℕ} {at r : ℕ} (p : Put P before at after r) where
@@ -34,6 +39,13 @@ module _ {P : List ℕ → Type 0} {before after : List ℕ} {at r : ℕ} (p : P
 
   pub put-as : {R : List ℕ → Type 0} → ((s : List ℕ) → P s → R s) → Put R before at after r
   put-as turned = record { bytes = p .bytes; spelt = turned (p .bytes) (p .spelt); end = p .end; fits = p .fits; is = p .is }
+
+-- what was put at the start stands there
+pub put-read : {P : List ℕ → Type 0} {before after : List ℕ} {r : ℕ} (p : Put P before 0 after r) → take r after ≡ p .bytes
+unfolding put
+put-read {before} p =
+    let long : _ ≡ length (p .bytes) = p .end ∙ omega arith in
+    rw (p .is, long) (take-append-le (length (p .bytes)) (p .bytes) (drop (length (p .bytes)) before) (omega arith) ∙ take-all (length (p .bytes)) (p .bytes) (omega arith))
 
 pub put-nothing : {P : List ℕ → Type 0} {before : List ℕ} {at : ℕ} → P [] → at ≤ length before → Put P before at before at
 put-nothing {before} {at} e h = record { bytes = []; spelt = e; end = omega arith; fits = h; is = sym (put-none before at) }
@@ -88,3 +100,22 @@ ends-by-ten small p = put-within p 10 (λ s g. decimal-short 9 g (omega arith))
 
 pub word-end : {word before after : List ℕ} {at r : ℕ} → Put (TheseBytes word) before at after r → r ≡ at + length word
 word-end {at} p = p .end ∙ ap (λ (s : List ℕ). at + length s) (p .spelt)
+
+-- ---- a whole number: digits alone, or digits after a minus
+module _ {z : ℤ} {n : ℕ} where
+  pub room-plain : (at end : ℕ) → pos 0 ≤ℤ z → n ≡ natOf z → EndsBy (SignedDecimal z) at end → EndsBy (Decimal n) at end
+  room-plain at end h e room = λ s g. room s (signed-plain z h (rw e at g))
+
+  pub put-plain : {before after : List ℕ} {at r : ℕ} → pos 0 ≤ℤ z → n ≡ natOf z → Put (Decimal n) before at after r → Put (SignedDecimal z) before at after r
+  put-plain h e p = put-as p (λ s g. signed-plain z h (rw e at g))
+
+  module _ (h : z <ℤ pos 0) (e : n ≡ natOf (negℤ z)) where
+    pub room-minus : (at end : ℕ) → EndsBy (SignedDecimal z) at end → EndsBy (Decimal n) (at + 1) end
+    room-minus at end room = λ s g. omega (arith, room (45 ∷ s) (signed-minus z h (rw e at g)))
+
+    pub put-minus : {before after : List ℕ} {at r : ℕ} → at < length before → Put (Decimal n) (set before at 45) (at + 1) after r → Put (SignedDecimal z) before at after r
+    put-minus inside p = put-then (put-byte 45 inside) p (λ s t f g. rw f (signed-minus z h (rw e at g)))
+
+-- a minus has room where the number has
+pub room-sign : (z : ℤ) (at end : ℕ) → EndsBy (SignedDecimal z) at end → at < end
+room-sign z at end room = let s = signed-exists z in omega (arith, room (s .0) (s .1), signed-some (s .1))

@@ -1,4 +1,4 @@
--- The list of a table's live cells: there is one, it is no longer than a table may hold, and it depends on which cells are live alone, as does every step.
+-- The live cells of a table: each is in range; there is one list of them, it is no longer than a table may hold, and it depends on which cells are live alone, as does every step.
 use mathlib.Core.Path.{_≡_}
 use mathlib.Core.Logic.{_↔_}
 use mathlib.Core.List.{List, [], _∷_, map}
@@ -12,11 +12,12 @@ use Rattle.whole.specs.Laws.Lists.{no-repeat-fits}
 use Rattle.whole.specs.Laws.Order.{<ℤ-trans}
 use Rattle.whole.specs.Rising.{Rising, rising-none, rising-one, rising-more}
 use Rattle.whole.specs.Laws.Rising.{rising-no-repeat, rising-same}
-use Rattle.track.specs.Life.{identifier}
+use Rattle.track.specs.Life.{identifier, CellInRange}
 use Rattle.track.specs.declared.cell.Cell.{Cell}
-use Rattle.table.specs.Header.{greatestCapacity}
+use Rattle.table.specs.Header.{capacity, greatestCapacity}
 use Rattle.table.specs.Laws.Header.{capacity-low}
 use Rattle.table.specs.Sound.{Sound, Live}
+use Rattle.table.specs.Laws.SoundBy.{held-in}
 use Rattle.leafing.specs.NextLive.{Steps}
 use Rattle.leafing.specs.Laws.NextLive.{steps-fixed}
 use Rattle.leafing.specs.Laws.Search.{next-as}
@@ -40,10 +41,19 @@ pub live-same-list : {v w : List ℤ} {l m : List Cell} → ((c : Cell) → Live
 live-same-list same a b =
     same-cells (a .rising) (b .rising) (λ c i. b .all c (same c .0 (a .only c i))) (λ c i. a .all c (same c .1 (b .only c i)))
 
-pub live-few : {w : List ℤ} → Sound w → {cells : List Cell} → LiveCells w cells → length cells ≤ greatestCapacity
-live-few {w} sound {cells} live =
+pub live-as : {v w : List ℤ} {cells : List Cell} → ((c : Cell) → Live v c ↔ Live w c) → LiveCells v cells → LiveCells w cells
+live-as same l = record { rising = l .rising; only = λ c m. same c .0 (l .only c m); all = λ c m. l .all c (same c .1 m) }
+
+pub live-in-range : {w : List ℤ} → Sound w → {c : Cell} → Live w c → CellInRange c
+live-in-range sound live = held-in sound (live .is-held)
+
+pub live-within : {w : List ℤ} → Sound w → {cells : List Cell} → LiveCells w cells → length cells ≤ capacity w
+live-within {w} sound {cells} live =
     let once = rising-no-repeat (λ x y z. <ℤ-trans) (λ x. <ℤ-irrefl) (rising-cells cells (live .rising)) in
-    omega (arith, no-repeat-fits once (λ c m. live .only c m .is-held), sound .few-cells, capacity-low (sound .capacity-in))
+    omega (arith, no-repeat-fits once (λ c m. live .only c m .is-held), sound .few-cells)
+
+pub live-few : {w : List ℤ} → Sound w → {cells : List Cell} → LiveCells w cells → length cells ≤ greatestCapacity
+live-few sound live = omega (arith, live-within sound live, capacity-low (sound .capacity-in))
 
 -- ---- so does a step: two tables with the same live cells, both sound or neither, give the same
 pub steps-same : {v w : List ℤ} {last : ℤ} (r s : Next) → ((c : Cell) → Live v c ↔ Live w c) → Sound v ↔ Sound w → Steps v last r → Steps w last s → r ≡ s

@@ -10,7 +10,8 @@ use Rattle.query.specs.Queried.{answerNumber, answerHits, reasons}
 use Rattle.query.specs.Laws.Queried.{refused-hits}
 use Rattle.sheet_write.specs.Written.{writtenNumber}
 use Rattle.sheet_write.specs.Laws.Written.{refused-total}
-use Rattle.promises.specs.Happens.{Call, Fresh, Report, Drop, Window, Moving, Open, Leaf, Write, Read, Reply, Number, Listed, Bytes, told, hitsTold, WasAsked, WasWritten, Happens, reasonsOf, refusedBy, ChangesNothing, IsQuery, window, moving, GoesBack, OnlyReads, query, opening, step, writing}
+use Rattle.sheet_write.specs.declared.Written.{Written}
+use Rattle.promises.specs.Happens.{Call, Fresh, Report, Drop, Window, Moving, Open, Leaf, Write, Chart, Read, Reply, Number, Listed, Bytes, told, hitsTold, WasAsked, WasWritten, Happens, reasonsOf, refusedBy, ChangesNothing, IsQuery, window, moving, GoesBack, OnlyReads, query, opening, step, writing, charting}
 
 -- ---- the number is the first of the call's reasons that holds
 pub call-number : (w : List ℤ) (c : Call) (a : Reply) (v : List ℤ) → Happens w c a v → First (reasonsOf w c) (told a)
@@ -22,6 +23,7 @@ call-number w (Moving q list) a v h = rw (h .reply) (h .queried .refusal)
 call-number w Open a v h = rw (h .reply) (h .refusal)
 call-number w (Leaf last) a v h = ap told (h .reply)
 call-number w (Write bytes) a v h = rw (h .reply) (h .writes .refusal)
+call-number w (Chart bytes) a v h = rw (h .reply) (h .writes .refusal)
 call-number w (Read cells bytes) a v h = rw (h .reply) (h .reads .refusal)
 
 -- ---- a call that only reads leaves its table as it was
@@ -31,6 +33,7 @@ only-reads a (query moving) h = h .unchanged
 only-reads a opening h = h .unchanged
 only-reads a step h = h .unchanged
 only-reads a writing h = h .unchanged
+only-reads a charting h = h .unchanged
 
 -- ---- a refused call changes nothing
 module _ {w : List ℤ} (c : Call) (a : Reply) {v : List ℤ} (refused : told a ≡ 0 → ⊥) where
@@ -55,15 +58,16 @@ module _ {w : List ℤ} (c : Call) (a : Reply) {v : List ℤ} (refused : told a 
         no-hits = λ ten. ap hitsTold is ∙ refused-hits (h .answer) not (λ e. ten (ap told is ∙ e));
       }
 
-  -- a sheet written
-  wrote : {bytes : List ℕ} → ((n hits : ℕ) → refusedBy c n hits ≡ Bytes n 0 bytes) → WasWritten w bytes a v → ChangesNothing w c a v
-  wrote {bytes} form h =
+  -- a sheet or tracks written
+  wrote : {bytes : List ℕ} {Writes : Written → List ℕ → Type 0} → ((n hits : ℕ) → refusedBy c n hits ≡ Bytes n 0 bytes)
+      → ((r : Written) (b : List ℕ) → Writes r b → (writtenNumber r ≡ 0 → ⊥) → b ≡ bytes) → WasWritten w Writes a v → ChangesNothing w c a v
+  wrote {bytes} form same h =
       let is = h .reply in
       let not : writtenNumber (h .written) ≡ 0 → ⊥ = λ e. refused (ap told is ∙ e) in
       record {
         same-table = h .unchanged;
         same-lent =
-            is ∙ ap₂ (Bytes (writtenNumber (h .written))) (refused-total (h .written) not) (h .writes .refused not)
+            is ∙ ap₂ (Bytes (writtenNumber (h .written))) (refused-total (h .written) not) (same (h .written) (h .bytes′) (h .writes) not)
             ∙ ap (λ n. Bytes n 0 bytes) (sym (ap told is)) ∙ sym (form (told a) (hitsTold a));
         no-hits = λ ten. ap hitsTold is;
       }
@@ -76,7 +80,8 @@ call-refused (Window q list) a h n = asked (Window q list) a n (λ n hits. refl)
 call-refused (Moving q list) a h n = asked (Moving q list) a n (λ n hits. refl) h
 call-refused Open a h n = numbered Open a n (λ m hits. refl) (h .reply) (λ m. h .unchanged)
 call-refused (Leaf last) a h n = absurd (n (ap told (h .reply)))
-call-refused (Write bytes) a h n = wrote (Write bytes) a n (λ n hits. refl) h
+call-refused (Write bytes) a h n = wrote (Write bytes) a n (λ n hits. refl) (λ r b p. p .refused) h
+call-refused (Chart bytes) a h n = wrote (Chart bytes) a n (λ n hits. refl) (λ r b p. p .refused) h
 call-refused (Read cells bytes) a h n = numbered (Read cells bytes) a n (λ m hits. refl) (h .reply) (h .reads .refused)
 
 -- ---- a query that goes backward is refused

@@ -7,7 +7,10 @@ use native.Mathlib.Omega.{arith}
 use lib.IntN.{ℤ, pos, natAbs}
 use lib.ListN.{length, take, drop}
 use Rattle.words.specs.Words.{natOf}
+use Rattle.track.specs.Life.{noCell}
+use Rattle.track.specs.Laws.Refusals.{not-zero}
 use Rattle.track.specs.declared.cell.Cell.{Cell}
+use Rattle.track.specs.declared.refusal.Refusal.the-variants.{NoTrack}
 use Rattle.track.specs.declared.queries.Query.{Query}
 use Rattle.table.specs.Header.{IsCapacity, clock, wordsFor}
 use Rattle.table.specs.Sound.{Sound, Live}
@@ -16,12 +19,19 @@ use Rattle.query.specs.Laws.Queried.{refused-opened}
 use Rattle.query.specs.Opened.{openedNodes}
 use Rattle.query.specs.Hits.{Hits}
 use Rattle.sheet.specs.Bytes.{AreBytes}
-use Rattle.sheet.specs.Sheet.{totalFor}
+use Rattle.sheet.specs.Sheet.{totalFor, cellNumbers}
 use Rattle.sheet_write.specs.Written.{writtenNumber, writtenTotal}
+use Rattle.sheet_write.specs.declared.Written.{Written}
+use Rattle.wkt.specs.TrackRead.{ReadsAs, trackNumber, trackCell}
+use Rattle.wkt.specs.Laws.TrackRead.{read-track-fixed, read-accepted, none-read}
+use Rattle.wkt.specs.declared.reading.TrackRead.{TrackRead}
+use Rattle.wkt.specs.declared.reading.TrackRead.the-variants.{Read, Refused}
+use Rattle.charting.specs.Charted.{Charts}
 use Rattle.sheet_read.specs.Laws.ThereAndBack.{sheet-back-again, table-back-again}
 use Rattle.calls.specs.TableCalls.{QueryGives}
-use Rattle.calls.specs.SheetCalls.{WriteGives}
-use Rattle.promises.specs.Happens.{Call, Write, Read, Reply, Number, Listed, Given, Bytes, told, WasAsked, WasWritten, Happens, IsQuery, window, moving}
+use Rattle.calls.specs.SheetCalls.{WrittenInNumbers}
+use Rattle.calls.specs.TrackCalls.{ReadTrackGives}
+use Rattle.promises.specs.Happens.{Call, Write, Chart, Read, Reply, Number, Listed, Given, Bytes, told, WasAsked, WasWritten, Happens, IsQuery, window, moving}
 
 -- ---- queries
 module _ {w : List ℤ} {B : Type 0} {q : Query} {list : List ℤ} {a : Reply} {v : List ℤ} (h : WasAsked w B q list a v) where
@@ -49,7 +59,7 @@ module _ {w : List ℤ} {a : Reply} (v : List ℤ) where
   query-counts moving h e = asked-counts h e
 
 -- ---- sheets
-abbrev totalTold : Reply → ℕ
+abbrev pub totalTold : Reply → ℕ
 totalTold (Number n) = 0
 totalTold (Listed n hits list) = 0
 totalTold (Given r) = 0
@@ -84,12 +94,36 @@ asked-in-numbers {list′} g =
     let n = g .in-numbers in
     (answerNumber a, answerHits a, n .number-is, n .hits-is, record { answer = a; list′ = list′; reply = refl; queried = g .queried; unchanged = refl })
 
-pub wrote-in-numbers : {w : List ℤ} {bytes bytes′ : List ℕ} {r total : ℤ} → WriteGives w bytes r total bytes′
-    → (n : ℕ) × (t : ℕ) × (r ≡ pos n) × (total ≡ pos t) × WasWritten w bytes (Bytes n t bytes′) w
-wrote-in-numbers {bytes′} g =
-    let a = g .written in
-    let n = g .in-numbers in
-    (writtenNumber a, writtenTotal a, n .number-is, n .total-is, record { written = a; bytes′ = bytes′; reply = refl; writes = g .writes; unchanged = refl })
+pub wrote-in-numbers : {w : List ℤ} {Writes : Written → List ℕ → Type 0} (a : Written) (bytes′ : List ℕ) {r total : ℤ} → Writes a bytes′ → WrittenInNumbers a r total
+    → (n : ℕ) × (t : ℕ) × (r ≡ pos n) × (total ≡ pos t) × WasWritten w Writes (Bytes n t bytes′) w
+wrote-in-numbers a bytes′ p n = (writtenNumber a, writtenTotal a, n .number-is, n .total-is, record { written = a; bytes′ = bytes′; reply = refl; writes = p; unchanged = refl })
+
+-- ---- tracks
+pub fourteen-not-zero : pos 14 ≡ pos 0 → ⊥
+fourteen-not-zero e = not-zero 13 (ap natAbs e)
+
+pub charted-is : {w u : List ℤ} {buffer bytes : List ℕ} {total : ℕ} → Happens w (Chart buffer) (Bytes 0 total bytes) u → Charts w buffer total bytes
+charted-is {w} {buffer} {bytes} {total} h =
+    let total-is : writtenTotal (h .written) ≡ total = sym (ap totalTold (h .reply)) in
+    let bytes-is : h .bytes′ ≡ bytes = sym (ap bytesTold (h .reply)) in
+    rw (total-is, bytes-is) at (h .writes .accepted (sym (ap told (h .reply))))
+
+module _ {id r : ℤ} {line : List ℕ} {numbers : List ℤ} (g : ReadTrackGives id line r numbers) where
+  -- a cell is read: 0 and its numbers
+  pub track-given : {c : Cell} → ReadsAs id line c → (r ≡ pos 0) × (numbers ≡ cellNumbers c)
+  track-given {c} a =
+      let same = read-track-fixed (g .read) (Read c) (g .reads) (read-accepted a) in
+      (g .number-is ∙ ap (λ (t : TrackRead). pos (trackNumber t)) same, g .record-is ∙ ap (λ (t : TrackRead). cellNumbers (trackCell t)) same)
+
+  -- none is: 14 and zeros
+  pub track-refused : ((c : Cell) → ReadsAs id line c → ⊥) → (r ≡ pos 14) × (numbers ≡ cellNumbers noCell)
+  track-refused none =
+      let same = read-track-fixed (g .read) (Refused NoTrack) (g .reads) (none-read none) in
+      (g .number-is ∙ ap (λ (t : TrackRead). pos (trackNumber t)) same, g .record-is ∙ ap (λ (t : TrackRead). cellNumbers (trackCell t)) same)
+
+  -- 0 is given for a cell only
+  pub track-accepted : r ≡ pos 0 → (c : Cell) × ReadsAs id line c × (numbers ≡ cellNumbers c)
+  track-accepted e = (trackCell (g .read), g .reads .cell (ap natAbs (sym (g .number-is) ∙ e)), g .record-is)
 
 -- the count of opened nodes, which is no part of a reply
 pub opened-is : {w : List ℤ} {B : Type 0} {q : Query} {list : List ℤ} {r hits opened : ℤ} {list′ : List ℤ} → QueryGives w B q list r hits opened list′

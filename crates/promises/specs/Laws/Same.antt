@@ -25,11 +25,13 @@ use Rattle.leafing.specs.NextLive.{openingReasons}
 use Rattle.leafing.specs.Laws.NextLive.{steps-sound, steps-fixed}
 use Rattle.sheet_write.specs.Written.{writtenNumber, writtenTotal}
 use Rattle.sheet_write.specs.Laws.Written.{written-same}
+use Rattle.sheet_write.specs.declared.Written.{Written}
+use Rattle.charting.specs.Laws.Charted.{charted-same}
 use Rattle.sheet_read.specs.Reads.{readReasons, IsRead}
 use Rattle.tree.specs.Steps.{outcomeNumber, ReportSteps}
 use Rattle.alike.specs.Alike.{Alike}
 use Rattle.alike.specs.Laws.Alike.{still-alike, query-number, same-found, report-alike, drop-alike, fresh-alike, reports-change-places}
-use Rattle.promises.specs.Happens.{Call, Fresh, Report, Drop, Window, Moving, Open, Leaf, Write, Read, Reply, Number, Listed, Given, Bytes, told, WasMade, WasReported, WasAsked, WasOpened, WasStepped, WasWritten, WasRead, Happens, Run, no-call, one-call}
+use Rattle.promises.specs.Happens.{Call, Fresh, Report, Drop, Window, Moving, Open, Leaf, Write, Chart, Read, Reply, Number, Listed, Given, Bytes, told, WasMade, WasReported, WasAsked, WasOpened, WasStepped, WasWritten, WasRead, Happens, Run, no-call, one-call}
 use Rattle.promises.specs.Model.{Model, Together, Start}
 use Rattle.promises.specs.Laws.Together.{read-together, start-together, run-together, call-size}
 
@@ -91,10 +93,11 @@ leafed-alike {last} a p q =
     let there = steps-sound (a .sound′) last (p .next) (next-as _ _ last (λ c. a .live c .0) (λ c l up. a .live c .1 l) (p .next) (p .steps .sound (a .sound))) in
     (p .reply ∙ ap Given (steps-fixed (p .next) (q .next) there (q .steps)) ∙ sym (q .reply), still-alike a (p .unchanged) (q .unchanged))
 
--- ---- the sheet depends on the clock and the live cells alone
-wrote-alike : {w v : List ℤ} {bytes : List ℕ} {x y : Reply} {w′ v′ : List ℤ} → Alike w v → WasWritten w bytes x w′ → WasWritten v bytes y v′ → (x ≡ y) × Alike w′ v′
-wrote-alike a p q =
-    let same = written-same (a .clock-is) (a .live) (λ s. a .sound′, λ s. a .sound) (p .writes) (q .writes) in (
+-- ---- a sheet and tracks depend on the clock and the live cells alone
+wrote-alike : {w v : List ℤ} {X Y : Written → List ℕ → Type 0} {x y : Reply} {w′ v′ : List ℤ} → Alike w v → ((r s : Written) (b c : List ℕ) → X r b → Y s c → (r ≡ s) × (b ≡ c))
+    → WasWritten w X x w′ → WasWritten v Y y v′ → (x ≡ y) × Alike w′ v′
+wrote-alike a writes-same p q =
+    let same = writes-same (p .written) (q .written) (p .bytes′) (q .bytes′) (p .writes) (q .writes) in (
       p .reply ∙ ap₂ (λ r b. Bytes (writtenNumber r) (writtenTotal r) b) (same .0) (same .1) ∙ sym (q .reply),
       still-alike a (p .unchanged) (q .unchanged),
     )
@@ -157,7 +160,8 @@ call-alike a long (Window q list) s t p p′ = asked-alike a _ (still q) list p 
 call-alike a long (Moving q list) s t p p′ = asked-alike a _ q list p p′
 call-alike a long Open s t p p′ = opened-alike a p p′
 call-alike a long (Leaf last) s t p p′ = leafed-alike a p p′
-call-alike a long (Write bytes) s t p p′ = wrote-alike a p p′
+call-alike a long (Write bytes) s t p p′ = wrote-alike a (λ m n b c. written-same (a .clock-is) (a .live) (λ s. a .sound′, λ s. a .sound)) p p′
+call-alike a long (Chart bytes) s t p p′ = wrote-alike a (λ m n b c. charted-same (a .clock-is) (a .live) (λ s. a .sound′, λ s. a .sound)) p p′
 call-alike a long (Read cells bytes) s t p p′ = read-alike a long cells p p′
 
 pub run-alike : {w v : List ℤ} {calls : List Call} {xs ys : List Reply} {w′ v′ : List ℤ} → Alike w v → length w ≡ length v → Run w calls xs w′ → Run v calls ys v′ → (xs ≡ ys) × Alike w′ v′

@@ -19,7 +19,7 @@ use Rattle.table.specs.Fresh.{IsFresh}
 use Rattle.tree.specs.Steps.{outcomeNumber, Stays, Step}
 use Rattle.tree.specs.Laws.Steps.{report-late, drop-late}
 use Rattle.sheet_read.specs.Reads.{IsRead}
-use Rattle.promises.specs.Happens.{Call, Fresh, Report, Drop, Window, Moving, Open, Leaf, Write, Read, Reply, told, Happens, Run, no-call, one-call}
+use Rattle.promises.specs.Happens.{Call, Fresh, Report, Drop, Window, Moving, Open, Leaf, Write, Chart, Read, Reply, told, Happens, Run, no-call, one-call}
 use Rattle.promises.specs.Model.{Model, Together, fresh, ofSheet, differs, others, accepted, after, afterAll, Start, made, read, acceptedCapacity, capacityAfter, Sized}
 
 -- ---- cells with other identifiers
@@ -109,6 +109,7 @@ call-together (Moving q list) a t h = by-number (Moving q list) (told a) t (λ e
 call-together Open a t h = by-number Open (told a) t (λ e. rw (h .unchanged) t) (λ n. h .unchanged)
 call-together (Leaf last) a t h = by-number (Leaf last) (told a) t (λ e. rw (h .unchanged) t) (λ n. h .unchanged)
 call-together (Write bytes) a t h = by-number (Write bytes) (told a) t (λ e. rw (h .unchanged) t) (λ n. h .unchanged)
+call-together (Chart bytes) a t h = by-number (Chart bytes) (told a) t (λ e. rw (h .unchanged) t) (λ n. h .unchanged)
 
 -- and so after any calls
 pub run-together : {m : Model} {w : List ℤ} {calls : List Call} {replies : List Reply} {u : List ℤ} → Together m w → Run w calls replies u → Together (afterAll m calls replies) u
@@ -139,6 +140,7 @@ call-size (Moving q list) a h = size-by (Moving q list) (told a) (λ e. same-siz
 call-size Open a h = size-by Open (told a) (λ e. same-size (h .unchanged)) (λ n. h .unchanged)
 call-size (Leaf last) a h = size-by (Leaf last) (told a) (λ e. same-size (h .unchanged)) (λ n. h .unchanged)
 call-size (Write bytes) a h = size-by (Write bytes) (told a) (λ e. same-size (h .unchanged)) (λ n. h .unchanged)
+call-size (Chart bytes) a h = size-by (Chart bytes) (told a) (λ e. same-size (h .unchanged)) (λ n. h .unchanged)
 
 pub run-length : {w : List ℤ} {calls : List Call} {replies : List Reply} {u : List ℤ} → Run w calls replies u → length u ≡ length w
 run-length no-call = refl

@@ -21,7 +21,7 @@ use Rattle.words.specs.Words.{natOf}
 use Rattle.words.specs.Laws.Words.{pos-natOf}
 use Rattle.track.specs.Numbers.{IsMinute}
 use Rattle.track.specs.Laws.Numbers.{minute-in, identifier-in}
-use Rattle.track.specs.Life.{CellInRange}
+use Rattle.track.specs.Life.{noCell, CellInRange}
 use Rattle.track.specs.declared.cell.Cell.{Cell}
 use Rattle.sheet.specs.Bytes.{AreBytes, wordBytes, bytesOf, wordInBytes}
 use Rattle.sheet.specs.Laws.Bytes.{length-bytesOf, bytes-of-word, word-of-bytes, word-front, word-behind, word-past}
@@ -108,7 +108,7 @@ module _ (bytes : List ℕ) (small : AreBytes bytes) where
 
 -- ---- a record past the end is read as zeros
 pub cell-past : (bytes : List ℕ) (k : ℕ) → length bytes / recordBytes < k
-    → cellAt bytes k ≡ record { id = pos 0; x = pos 0; vx = pos 0; y = pos 0; vy = pos 0; expiry = record { at = pos 0 } }
+    → cellAt bytes k ≡ noCell
 unfolding cellFrom
 cell-past bytes k h =
     rw (past (recordStart k) (omega arith), past (recordStart k + 4) (omega arith), past (recordStart k + 8) (omega arith), past (recordStart k + 12) (omega arith), past (recordStart k + 16) (omega arith), past (recordStart k + 20) (omega arith))

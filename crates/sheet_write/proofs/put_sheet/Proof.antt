@@ -3,13 +3,12 @@ use mathlib.Core.Path.{_≡_, _∙_, subst}
 use native.Mathlib.Omega.{arith}
 use mir.Syntax.{w32}
 use mir.Val.{toZ, ofZ}
-use Rattle.whole.specs.Laws.Within.{read32, word-back}
-use Rattle.track.specs.Laws.Numbers.{identifier-in}
+use Rattle.whole.specs.Laws.Within.{word-back}
 use Rattle.table.specs.Header.{clock}
-use Rattle.table.specs.Laws.SoundBy.{held-in}
 use Rattle.sheet.specs.Sheet.{headerBytes, headerOf}
 use Rattle.words.specs.Parts.{put}
 use Rattle.leafing.specs.NextLive.{NextLive}
+use Rattle.leafing.specs.Laws.CellsPassed.{next-cell-back}
 use Rattle.leafing.specs.declared.search.Next.the-variants.{One}
 use Rattle.sheet.specs.Laws.PutSheet.{put-long}
 use Rattle.sheet_write.specs.Laws.Passes.{Putting, PuttingOn, counted-few, putting-none, record-fits, putting-next, putting-goes-on, putting-all}
@@ -38,7 +37,7 @@ found : (c : tie.After-c Inv-loop μ-loop) → NextLive (c .before .before .befo
 found c = subst (NextLive (c .before .before .before .before .before .before .before .before .before .before .before .args .t .now) (toZ w32 (c .before .before .before .before .loop .last))) (c .c .given .1) (c .before .before .next-of-sound .ensures)
 
 r-id : (c : tie.After-c Inv-loop μ-loop) → toZ w32 (ofZ w32 (c .c .given .0 .0 .id)) ≡ c .c .given .0 .0 .id
-r-id c = read32 tt (identifier-in (held-in (c .before .before .before .before .before .before .before .before .before .before .before .pre .sound) (found c .is-one .is-held) .identifier))
+r-id c = next-cell-back (c .before .before .before .before .before .before .before .before .before .before .before .pre .sound) (found c)
 
 put-header-requires : tie.Need-put-header-requires Inv-loop μ-loop
 put-header-requires c κs = let can = c .before .before .before .pre in (omega (arith, counted-few (can .sound) (can .counted)), omega (arith, can .room))
@@ -50,7 +49,7 @@ next-of-sound-requires : tie.Need-next-of-sound-requires Inv-loop μ-loop
 next-of-sound-requires c κs = c .before .before .before .before .before .before .before .before .pre .sound
 
 same-length : tie.Need-same-length Inv-loop μ-loop
-same-length c = put-long (so-far (c .before .before .before .before) .so-put)
+same-length c = put-long (so-far (c .before .before .before .before) .holds .so-put)
 
 returns : tie.Need-returns Inv-loop μ-loop
 returns c =
@@ -64,10 +63,10 @@ put-record-requires c κs = record-fits (c .before .before .before .before .befo
 loop-again : tie.Need-loop-again Inv-loop μ-loop
 loop-again c =
     let f = c .before .before .before .before .before .before in
-    rw (r-id f) (record { on = λ bytes can e. putting-next can (c .before .before .before .before .before .before .before .before .before .before .loop .inv .on bytes can e) _ (found f) (c .before .before .before .put-record .ensures) })
+    rw (r-id f) (record { on = λ bytes can e. putting-next can (c .before .before .before .before .before .before .before .before .before .before .loop .inv .on bytes can e) (search needs) _ (found f) (c .before .before .before .put-record .ensures) })
 
 same-length-2 : tie.Need-same-length-2 Inv-loop μ-loop
-same-length-2 c = put-long (so-far (c .before) .so-put)
+same-length-2 c = put-long (so-far (c .before) .holds .so-put)
 
 returns-2 : tie.Need-returns-2 Inv-loop μ-loop
 returns-2 c = putting-all (c .before .before .before .before .before .before .before .before .pre) (so-far (c .before)) (search needs)

@@ -2,7 +2,7 @@ use native.Mathlib.Omega.{arith}
 use Rattle.whole.specs.Laws.Tells.{passed-not, failed-not}
 use Rattle.table.specs.Sound.{Sound}
 use Rattle.sheet_write.specs.Laws.Passes.{counted-few}
-use Rattle.sheet_write.specs.Laws.Written.{writes-unsound, writes-short, writes-all}
+use Rattle.sheet_write.specs.Laws.Written.{table-unsound, writes-short, writes-all}
 use borrow.Author.Needs.{needs}
 use Rattle.sheet_write.proofs.write_sheet.Statement.{statement}
 use Rattle.sheet_write.proofs.write_sheet.Tie as tie
@@ -11,7 +11,7 @@ sound : (c : tie.Else1) → Sound (c .before .before .before .args .t .now)
 sound c = passed-not (c .before .is-sound .ensures) (c .if1 .left)
 
 returns : tie.Need-returns
-returns c = writes-unsound (failed-not (c .before .is-sound .ensures) (c .if1 .taken))
+returns c = table-unsound (failed-not (c .before .is-sound .ensures) (c .if1 .taken))
 
 count-live-requires : tie.Need-count-live-requires
 count-live-requires c κs = sound c

@@ -12,17 +12,16 @@ use Rattle.track.specs.declared.cell.Cell.{Cell}
 use Rattle.whole.specs.Lists.{_∈_}
 use Rattle.table.specs.Header.{clock}
 use Rattle.table.specs.Sound.{Sound, Live}
-use Rattle.table.specs.Laws.SoundBy.{held-in}
 use Rattle.sheet.specs.Sheet.{headerBytes, totalFor, sheetOf, cellsOf}
 use Rattle.sheet.specs.Laws.Sheet.{length-sheetOf, clock-of-sheet, cells-of-sheet, sheet-sound}
 use Rattle.sheet.specs.WellFormed.{CellsSound}
 use Rattle.leafing.specs.Leafed.{LiveCells}
-use Rattle.leafing.specs.Laws.LiveCells.{live-few}
+use Rattle.leafing.specs.Laws.LiveCells.{live-in-range, live-few}
 use Rattle.sheet_write.specs.Written.{Writes, SheetOfTable}
 
 -- the live cells of a sound table may stand on a sheet
 pub live-sound : {w : List ℤ} {cells : List Cell} → Sound w → LiveCells w cells → CellsSound (clock w) cells
-live-sound sound live = record { in-range = λ c m. held-in sound (live .only c m .is-held); in-life = λ c m. live .only c m .in-life; rising = live .rising }
+live-sound sound live = record { in-range = λ c m. live-in-range sound (live .only c m); in-life = λ c m. live .only c m .in-life; rising = live .rising }
 
 module _ {w : List ℤ} (sound : Sound w) {bytes : List ℕ} {total : ℕ} {bytes′ : List ℕ} (p : Writes w bytes total bytes′) where
   -- the first bytes, as many as the total, are the sheet of the live cells

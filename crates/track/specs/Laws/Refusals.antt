@@ -9,7 +9,7 @@ use lib.Dec.{ltb}
 use lib.IntN.{ℤ, pos}
 use lib.ListN.{getD}
 use Rattle.track.specs.declared.refusal.Refusal.{Refusal}
-use Rattle.track.specs.declared.refusal.Refusal.the-variants.{NotSound, BadCapacity, ShortTable, OutOfRange, BeforeClock, ExpiresFirst, Backward, NotLive, Full, ShortList, BadHeader, BadRecord, ShortBytes}
+use Rattle.track.specs.declared.refusal.Refusal.the-variants.{NotSound, BadCapacity, ShortTable, OutOfRange, BeforeClock, ExpiresFirst, Backward, NotLive, Full, ShortList, BadHeader, BadRecord, ShortBytes, NoTrack}
 use Rattle.track.specs.Refusals.{number, Reason, _when_, First, Gives, firstGiven}
 
 -- a refusal's number is not 0
@@ -33,12 +33,13 @@ refused-not-zero ShortList = not-zero 9
 refused-not-zero BadHeader = not-zero 10
 refused-not-zero BadRecord = not-zero 11
 refused-not-zero ShortBytes = not-zero 12
+refused-not-zero NoTrack = not-zero 13
 
 -- a number has one refusal: place n of this list has that of number n
 abbrev listed : List Refusal
 listed =
     NotSound ∷ NotSound ∷ BadCapacity ∷ ShortTable ∷ OutOfRange ∷ BeforeClock ∷ ExpiresFirst ∷
-    Backward ∷ NotLive ∷ Full ∷ ShortList ∷ BadHeader ∷ BadRecord ∷ ShortBytes ∷ []
+    Backward ∷ NotLive ∷ Full ∷ ShortList ∷ BadHeader ∷ BadRecord ∷ ShortBytes ∷ NoTrack ∷ []
 
 at-number : (r : Refusal) → getD listed (number r) NotSound ≡ r
 at-number NotSound = refl
@@ -54,6 +55,7 @@ at-number ShortList = refl
 at-number BadHeader = refl
 at-number BadRecord = refl
 at-number ShortBytes = refl
+at-number NoTrack = refl
 
 pub number-fixes : (r s : Refusal) → number r ≡ number s → r ≡ s
 number-fixes r s e = sym (at-number r) ∙ ap (λ (n : ℕ). getD listed n NotSound) e ∙ at-number s

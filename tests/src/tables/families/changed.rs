@@ -214,7 +214,7 @@ fn runs_agree(library: &Library, capacity: i32, random: &mut Random) -> bool {
     let mut family = Family::named(format!("reports and drops in tables of {capacity}"));
     let tables = match capacity {
         ..=16 => 80,
-        ..=40 => 50,
+        17..=40 => 50,
         _ => 30,
     };
     for _ in 0..tables {

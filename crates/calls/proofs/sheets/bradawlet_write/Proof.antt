@@ -1,3 +1,4 @@
+use native.Mathlib.Omega.{arith}
 use borrow.Author.Needs.{needs}
 use Rattle.whole.specs.Laws.Within.{word-back}
 use Rattle.sheet_write.specs.Laws.Written.{written-few}
@@ -5,7 +6,7 @@ use Rattle.calls.proofs.sheets.bradawlet_write.Statement.{statement}
 use Rattle.calls.proofs.sheets.bradawlet_write.Tie as tie
 
 written-in-numbers-requires : tie.Need-written-in-numbers-requires
-written-in-numbers-requires c κs = record { small = written-few _ (c .before .before .before .write-sheet .ensures) }
+written-in-numbers-requires c κs = record { small = omega (arith, written-few _ (c .before .before .before .write-sheet .ensures)) }
 
 returns : tie.Need-returns
 returns c = record {

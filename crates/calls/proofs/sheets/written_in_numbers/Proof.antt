@@ -1,5 +1,4 @@
 use mathlib.Core.Path.{refl, subst, _∙_}
-use native.Mathlib.Omega.{arith}
 use borrow.Author.Needs.{needs}
 use Rattle.whole.specs.Laws.Within.{word-back}
 use Rattle.calls.specs.SheetCalls.{TotalFits}
@@ -9,7 +8,7 @@ use Rattle.calls.proofs.sheets.written_in_numbers.Tie as tie
 word-of-requires : tie.Need-word-of-requires
 word-of-requires c κs =
     let small = subst TotalFits (c .before .written .given .1) (c .before .before .before .pre) in
-    omega (arith, small .small)
+    small .small
 
 returns : tie.Need-returns
 returns c = rw (c .before .before .written .given .1) (record { number-is = refl; total-is = word-back (c .word-of .result) (c .word-of .ok) ∙ c .word-of .ensures })

@@ -49,10 +49,14 @@ returns-12 c = of-variant (c .enum-told12 .given .1)
 returns-13 : tie.Need-returns-13
 returns-13 c = of-variant (c .enum-told13 .given .1)
 
+returns-14 : tie.Need-returns-14
+returns-14 c = of-variant (c .enum-told14 .given .1)
+
 pub number-spec : {M : Type 1} → statement M
 number-spec =
     tie.close
     (tie.spec
+    (λ c. search needs)
     (λ c. search needs)
     (λ c. search needs)
     (λ c. search needs)
@@ -78,4 +82,5 @@ number-spec =
     returns-10
     returns-11
     returns-12
-    returns-13)
+    returns-13
+    returns-14)

@@ -1,0 +1,3 @@
+pub mod TrackText
+pub mod TextPasses
+pub mod Charted

@@ -1,0 +1,3 @@
+pub mod PointPut
+pub mod LinePut
+pub mod TrackFound

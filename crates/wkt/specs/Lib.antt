@@ -1,0 +1,5 @@
+pub mod Metres
+pub mod TrackLine
+pub mod TrackRead
+pub mod Inner
+pub mod Laws

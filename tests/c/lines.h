@@ -1,0 +1,91 @@
+/* Lines of well-known text: those that give a cell, and those that give none. */
+#ifndef LINES_H
+#define LINES_H
+
+#include "bradawlet.h"
+
+/* A line, and the cell that it gives with the cell's identifier. The ends of each range are among them. */
+static const struct {
+    const char *line;
+    int32_t cell[BRADAWLET_RECORD];
+} lines_with_cells[] = {
+    {"LINESTRING M (1000 2000 10, 2500 1100 40)\n", {7, 50, 5, 230, -3, 40}},
+    {"LINESTRING M (0 0 10, 600 600 30)\n", {9, -30, 3, -30, 3, 30}},
+    {"LINESTRING M (0 0 0, 0 0 1)\n", {1, 0, 0, 0, 0, 1}},
+    {"LINESTRING M (-10 10 0, 14390 -14390 1440)\n", {INT32_MAX, -1, 1, 1, -1, 1440}},
+    {"LINESTRING M (0 0 0, 5120 -5120 1)\n", {1, 0, 512, 0, -512, 1}},
+    {"LINESTRING M (1005120 0 1439, 1000000 0 1440)\n", {1, 837280, -512, 0, 0, 1440}},
+    {"LINESTRING M (1010240 0 1438, 1005120 0 1439)\n", {1, 837280, -512, 0, 0, 1439}},
+    {"LINESTRING M (0 -1005120 1439, 0 -1000000 1440)\n", {1, 0, 0, -837280, 512, 1440}},
+    {"LINESTRING M (15740480 15740480 1439, 15745600 15745600 1440)\n",
+     {1, 837280, 512, 837280, 512, 1440}},
+    {"LINESTRING M (-8372800 8372800 0, -8372800 8372800 1440)\n", {1, -837280, 0, 837280, 0, 1440}},
+};
+
+/* Written rightly, but with numbers that give no cell. */
+static const char *const lines_with_wrong_numbers[] = {
+    /* The minutes: equal, backward, out of range. */
+    "LINESTRING M (0 0 10, 0 0 10)\n", "LINESTRING M (2500 1100 40, 1000 2000 10)\n",
+    "LINESTRING M (0 0 1440, 0 0 1441)\n", "LINESTRING M (0 0 -1, 0 0 1)\n",
+    "LINESTRING M (0 0 10, 0 0 -30)\n", "LINESTRING M (0 0 -2, 0 0 -1)\n",
+    /* Positions that are no whole units, each by itself. */
+    "LINESTRING M (1001 2000 10, 2500 1100 40)\n", "LINESTRING M (1000 2005 10, 2500 1100 40)\n",
+    "LINESTRING M (1000 2000 10, 2509 1100 40)\n", "LINESTRING M (1000 2000 10, 2500 1099 40)\n",
+    "LINESTRING M (1005 2000 10, 2505 1100 40)\n", "LINESTRING M (1 1 0, 1 1 1)\n",
+    /* Velocities that are not whole, on x and on y, and too fast. */
+    "LINESTRING M (1000 2000 10, 2510 1100 40)\n", "LINESTRING M (1000 2000 10, 2500 1110 40)\n",
+    "LINESTRING M (1000 2000 10, 2490 1100 40)\n", "LINESTRING M (0 0 0, 10 0 2)\n",
+    "LINESTRING M (0 0 0, 5130 0 1)\n", "LINESTRING M (0 0 0, 0 5130 1)\n",
+    "LINESTRING M (0 0 0, -5130 0 1)\n", "LINESTRING M (0 0 0, 0 -5130 1)\n",
+    /* Too far out at minute 0. */
+    "LINESTRING M (1005130 0 1439, 1000010 0 1440)\n", "LINESTRING M (0 -1005130 1439, 0 -1000010 1440)\n",
+    "LINESTRING M (-8372810 0 0, -8372810 0 1)\n", "LINESTRING M (0 8372810 0, 0 8372810 1)\n",
+    /* Numbers that are right ones once they are cut to 16, 32 or 64 bits. */
+    "LINESTRING M (4294968296 2000 10, 2500 1100 40)\n", "LINESTRING M (1000 2000 10, 2500 -4294966196 40)\n",
+    "LINESTRING M (1000 2000 4294967306, 2500 1100 40)\n", "LINESTRING M (1000 2000 10, 2500 1100 65576)\n",
+    "LINESTRING M (18446744073709552616 2000 10, 2500 1100 40)\n",
+    "LINESTRING M (1000 2000 10, 2500 1100 18446744073709551656)\n",
+    "LINESTRING M (-2147483648 0 0, -2147483648 0 1)\n", "LINESTRING M (2147483647 0 0, 2147483647 0 1)\n",
+    "LINESTRING M (2147483640 0 0, -2147483640 0 1)\n", "LINESTRING M (999999990 0 0, -999999990 0 1440)\n",
+};
+
+/* Spelt in another way: most of them some map program reads or writes. */
+static const char *const lines_spelt_otherwise[] = {
+    "", "\n", " \n", "LINESTRING M EMPTY\n", "LINESTRING M ()\n", "POINT M (1000 2000 10)\n",
+    "POINT M (1000 2000 10, 2500 1100 40)\n",
+    /* The end of the line, and what stands around it. */
+    "LINESTRING M (1000 2000 10, 2500 1100 40)", "LINESTRING M (1000 2000 10, 2500 1100 40)\n\n",
+    "LINESTRING M (1000 2000 10, 2500 1100 40)\r\n", "LINESTRING M (1000 2000 10, 2500 1100 40)\r",
+    "LINESTRING M (1000 2000 10, 2500 1100 40) \n", " LINESTRING M (1000 2000 10, 2500 1100 40)\n",
+    "\nLINESTRING M (1000 2000 10, 2500 1100 40)\n", "LINESTRING M (1000 2000 10, 2500 1100 40);\n",
+    "LINESTRING M (1000 2000 10, 2500 1100 40)\nLINESTRING M (1000 2000 10, 2500 1100 40)\n",
+    "SRID=0;LINESTRING M (1000 2000 10, 2500 1100 40)\n",
+    /* The word, and the mark of the measure. */
+    "linestring m (1000 2000 10, 2500 1100 40)\n", "LineString M (1000 2000 10, 2500 1100 40)\n",
+    "LINESTRING m (1000 2000 10, 2500 1100 40)\n", "LINESTRING M(1000 2000 10, 2500 1100 40)\n",
+    "LINESTRING M(1000 2000 10,2500 1100 40)\n", "LINESTRINGM (1000 2000 10, 2500 1100 40)\n",
+    "LINESTRINGM(1000 2000 10, 2500 1100 40)\n", "LINESTRING Z (1000 2000 10, 2500 1100 40)\n",
+    "LINESTRING ZM (1000 2000 0 10, 2500 1100 0 40)\n", "LINESTRING (1000 2000 10, 2500 1100 40)\n",
+    "LINESTRING  M (1000 2000 10, 2500 1100 40)\n", "LINESTRING\tM (1000 2000 10, 2500 1100 40)\n",
+    /* The points. */
+    "LINESTRING M (1000 2000 10,2500 1100 40)\n", "LINESTRING M (1000 2000 10 , 2500 1100 40)\n",
+    "LINESTRING M (1000 2000 10,  2500 1100 40)\n", "LINESTRING M ( 1000 2000 10, 2500 1100 40)\n",
+    "LINESTRING M (1000 2000 10, 2500 1100 40 )\n", "LINESTRING M (1000  2000 10, 2500 1100 40)\n",
+    "LINESTRING M (1000 2000 10; 2500 1100 40)\n", "LINESTRING M (1000 2000 10 2500 1100 40)\n",
+    "LINESTRING M (1000 2000 10)\n", "LINESTRING M (1000 2000, 2500 1100)\n",
+    "LINESTRING M (1000 2000 10, 2500 1100 40, 2550 1070 41)\n",
+    "LINESTRING M (1000 2000 10, 2500 1100 40, )\n", "LINESTRING M ((1000 2000 10, 2500 1100 40))\n",
+    /* The numbers. */
+    "LINESTRING M (-0 0 10, 600 600 30)\n", "LINESTRING M (0 -0 10, 600 600 30)\n",
+    "LINESTRING M (0 0 -0, 600 600 30)\n", "LINESTRING M (00 0 10, 600 600 30)\n",
+    "LINESTRING M (0 0 007, 600 600 37)\n", "LINESTRING M (01000 2000 10, 2500 1100 40)\n",
+    "LINESTRING M (1000 2000 010, 2500 1100 40)\n", "LINESTRING M (1000 2000 10, 2500 1100 0040)\n",
+    "LINESTRING M (0 0 10, 600 -0600 30)\n", "LINESTRING M (+1000 2000 10, 2500 1100 40)\n",
+    "LINESTRING M (1000 2000 +10, 2500 1100 40)\n", "LINESTRING M (1000.0 2000 10, 2500 1100 40)\n",
+    "LINESTRING M (1000 2000 10., 2500 1100 40)\n", "LINESTRING M (1e3 2000 10, 2500 1100 40)\n",
+    "LINESTRING M (0x3e8 2000 10, 2500 1100 40)\n", "LINESTRING M (1,000 2000 10, 2500 1100 40)\n",
+    "LINESTRING M (- 2000 10, 2500 1100 40)\n", "LINESTRING M (--1000 2000 10, 2500 1100 40)\n",
+    "LINESTRING M (- 1000 2000 10, 2500 1100 40)\n", "LINESTRING M (nan 2000 10, 2500 1100 40)\n",
+};
+
+#endif
