@@ -1,24 +1,17 @@
 -- The number of a refused call in words.
+use mathlib.Core.Path.{_≡_, refl}
 use mathlib.Core.List.{List}
-use Prim.Native.Nat.{ℕ}
+use Prim.Native.Nat.{ℕ, zero, suc}
 use lib.IntN.{pos}
 use Rattle.track.specs.Refusals.{number}
+use Rattle.track.specs.Laws.Refusals.{refused-not-zero}
 use Rattle.track.specs.declared.refusal.Refusal.{Refusal}
-use Rattle.track.specs.declared.refusal.Refusal.the-variants.{NotSound, BadCapacity, ShortTable, OutOfRange, BeforeClock, ExpiresFirst, Backward, NotLive, Full, ShortList, BadHeader, BadRecord, ShortBytes}
 use Rattle.desk_answers.specs.AnswerLines.{NoLine}
 use Rattle.desk_serve.specs.Answered.{OutcomeLine}
 
+not-zero-line : (n : ℕ) (s : List ℕ) → (n ≡ 0 → ⊥) → NoLine (pos n) s → OutcomeLine n s
+not-zero-line zero s ne p = absurd (ne refl)
+not-zero-line (suc n) s ne p = p
+
 pub refused-line : (r : Refusal) (s : List ℕ) → NoLine (pos (number r)) s → OutcomeLine (number r) s
-refused-line NotSound s p = p
-refused-line BadCapacity s p = p
-refused-line ShortTable s p = p
-refused-line OutOfRange s p = p
-refused-line BeforeClock s p = p
-refused-line ExpiresFirst s p = p
-refused-line Backward s p = p
-refused-line NotLive s p = p
-refused-line Full s p = p
-refused-line ShortList s p = p
-refused-line BadHeader s p = p
-refused-line BadRecord s p = p
-refused-line ShortBytes s p = p
+refused-line r s p = not-zero-line (number r) s (refused-not-zero r) p
