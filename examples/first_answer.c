@@ -24,8 +24,8 @@ int main(void)
 {
     must("fresh", bradawlet_fresh(table, words, CELLS));
 
-    /* Cell 7 is at (100, 200) at minute 10, in units of 10 m. It moves by (5, -3) a minute, and its track can be
-       trusted up to minute 40. */
+    /* Cell 7 is at (100, 200) at minute 10, in units of 10 m. It moves by (5, -3) a minute, and its track says nothing
+       from minute 40 on. */
     must("report", bradawlet_report(table, words, 7, 100, 200, 5, -3, 10, 40));
 
     /* Which cells are within x 140 to 160 and y 160 to 180 at some instant from minute 15 to 25? */

@@ -73,7 +73,7 @@ int main(void)
         if (i + 1 == reports || morning[i + 1].minute != r->minute)
             ask_all(r->minute);
     }
-    /* Radar has lost cell 11. At minute 375 cell 14 has expired as well: it was trusted up to 372. */
+    /* Radar has lost cell 11. At minute 375 cell 14 is gone as well: it expired at 372. */
     must("drop", bradawlet_drop(table, words, 11, 375));
     ask_all(375);
     return EXIT_SUCCESS;

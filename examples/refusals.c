@@ -28,7 +28,7 @@ static const char *reason(int32_t number)
     case BRADAWLET_BEFORE_CLOCK:
         return "the table's clock is past that minute";
     case BRADAWLET_EXPIRES_FIRST:
-        return "the cell expires before it is reported";
+        return "the cell's expiry is not after its report";
     case BRADAWLET_BACKWARD:
         return "start and end, or two edges, are transposed";
     case BRADAWLET_NOT_LIVE:
@@ -81,13 +81,13 @@ int main(void)
     tell("a report", bradawlet_report(table, words, 7, 100, 200, 5, -3, 10, 40));
     tell("a report of 513 units a minute", bradawlet_report(table, words, 8, 0, 0, 513, 0, 10, 40));
     tell("a report of minute 9", bradawlet_report(table, words, 8, 0, 0, 0, 0, 9, 40));
-    tell("a report that expires at 11", bradawlet_report(table, words, 8, 0, 0, 0, 0, 12, 11));
+    tell("a report of minute 12 that expires at 12", bradawlet_report(table, words, 8, 0, 0, 0, 0, 12, 12));
     ask("a window from 40 to 12", 40, 12);
     tell("a drop of cell 8", bradawlet_drop(table, words, 8, 12));
     tell("a second cell", bradawlet_report(table, words, 8, 0, 0, 1, 1, 12, 40));
     tell("a third cell", bradawlet_report(table, words, 9, 0, 0, 1, 1, 12, 40));
     ask("a window with two hits and one place", 12, 40);
-    ask("a window after the last minute of both", 41, 50);
+    ask("a window from the expiry of both on", 40, 50);
 
     uint8_t bytes[BRADAWLET_SHEET(CELLS)];
     int32_t total;

@@ -76,7 +76,7 @@ int main(void)
     /* Some map programs write the first line so, and it is not read. */
     const char *unspaced = "LINESTRING M (1000 2000 10,2500 1100 40)\n";
     read_back(7, unspaced, strlen(unspaced));
-    /* What cell 7 gives in its last minute. One point has no velocity: it is passed over. */
+    /* One point has no velocity: no table gives such a line, and it is not read. */
     const char *point = "POINT M (2500 1100 40)\n";
     read_back(7, point, strlen(point));
 

@@ -64,11 +64,13 @@
 extern "C" {
 #endif
 
-/* The version of the calls. */
+/* The version of the calls. Before 0.3.0 the expiry itself was still part of a
+   cell's life: docs/MANUAL.md, section 4, says what the change means for programs,
+   and for tables and sheets that are kept. */
 #define BRADAWLET_VERSION_MAJOR 0
-#define BRADAWLET_VERSION_MINOR 2
+#define BRADAWLET_VERSION_MINOR 3
 #define BRADAWLET_VERSION_PATCH 0
-#define BRADAWLET_VERSION "0.2.0"
+#define BRADAWLET_VERSION "0.3.0"
 
 /* The version of a table's layout. Tables of one layout can be kept over an
    upgrade of the library; where this number changes they cannot, and nothing in
@@ -140,12 +142,15 @@ int32_t bradawlet_fresh(int32_t *table, size_t words, int32_t cells);
  *   x, y     where it is at the report's minute    -100000 to 100000 each
  *   vx, vy   how it moves from there               -512 to 512 each
  *   minute   when it is reported                   0 to 1440
- *   expiry   the last minute for which its track
- *            can be trusted                        0 to 1440
+ *   expiry   the minute from which on its track
+ *            says nothing                          0 to 1440
  *
- * A cell is live as long as its expiry is not before the clock. The expired
- * ones count as absent, whether or not the table still holds them: their room
- * is used again, and no query finds them.
+ * A cell is live as long as its expiry is after the clock. The expired ones
+ * count as absent, whether or not the table still holds them: their room is used
+ * again, and no query finds them. So a cell and its successor, reported in the
+ * very minute of its expiry, are never found together. Nothing is live at minute
+ * 1440, as no expiry is after it: a report at that minute is refused, and is one
+ * at minute 0 of the next day's table.
  *
  * The answer is BRADAWLET_DONE: then the reported cell is live, and so are all
  * others that are not expired at its minute. Or it is a refusal, for the first
@@ -154,7 +159,7 @@ int32_t bradawlet_fresh(int32_t *table, size_t words, int32_t cells);
  *   BRADAWLET_NOT_SOUND       the words are not a sound table
  *   BRADAWLET_OUT_OF_RANGE    an argument is outside its range
  *   BRADAWLET_BEFORE_CLOCK    minute is before the table's clock
- *   BRADAWLET_EXPIRES_FIRST   expiry is before minute
+ *   BRADAWLET_EXPIRES_FIRST   expiry is not after minute
  *   BRADAWLET_FULL            as many cells as the table is for, this one not
  *                             counted, are live at the minute
  *
@@ -202,9 +207,9 @@ int32_t bradawlet_drop(int32_t *table, size_t words, int32_t id, int32_t minute)
  *   opened   gives how many nodes of the tree were opened to find them
  *
  * A cell meets the window exactly when at one instant, from start to end and
- * not after the cell's expiry, x and y both lie within the rectangle. Instants
- * between whole minutes count, and so do the edges, the start, the end and the
- * expiry.
+ * before the cell's expiry, x and y both lie within the rectangle. Instants
+ * between whole minutes count, and so do the edges, the start and the end, but
+ * the expiry does not.
  *
  * The answer is BRADAWLET_DONE, and then the first places of the list, as many
  * as there are hits, have the identifiers of these cells in rising order; the
@@ -279,8 +284,8 @@ int32_t bradawlet_next(const int32_t *BRADAWLET_RESTRICT table, size_t words, in
 
 /*
  * Writes the sheet of a table: its clock and its live cells, those whose expiry
- * is not before the clock, by rising identifier. bradawlet_viewer.h says what a
- * sheet's bytes are, with bradawlet_sheet.
+ * is after the clock, by rising identifier. bradawlet_viewer.h says what a sheet's
+ * bytes are, with bradawlet_sheet.
  *
  *   table    the table, which is not changed; it may hold any words
  *   words    how many words are lent
@@ -327,13 +332,12 @@ int32_t bradawlet_read(int32_t *BRADAWLET_RESTRICT table, size_t words, int32_t 
                        const uint8_t *BRADAWLET_RESTRICT bytes, size_t length);
 
 /*
- * Writes the tracks of a table's live cells, those whose expiry is not before the
+ * Writes the tracks of a table's live cells, those whose expiry is after the
  * clock, as well-known text (OGC 06-103r4), which map programs read: a line for
  * each cell, by rising identifier, as the leafing gives them.
  *
- *   LINESTRING M (x y m, x y m)   where the cell is at the clock, and where it is
- *                                 at its expiry
- *   POINT M (x y m)               where it is at the clock, if that is its expiry
+ *   LINESTRING M (x y m, x y m)   where the cell is at the clock, and where its
+ *                                 track is at its expiry
  *
  * x and y are in whole metres, 10 for each unit, and m is the minute. A number has
  * no leading zeros and no plus sign. Each line, the last one too, ends in a line
@@ -390,12 +394,12 @@ int32_t bradawlet_tracks(const int32_t *BRADAWLET_RESTRICT table, size_t words,
  *   BRADAWLET_NO_TRACK      the line is not as above, or the identifier is outside
  *                           its range
  *
- * A POINT line is refused so as well, as it has no velocity, and so is text that
- * other programs write with other spaces or other spellings of a number. A POINT is
- * a cell in its last minute: pass over it; a sheet carries it.
+ * A POINT line is refused so as well, as it has no velocity: only version 0.2.0
+ * wrote one, for a cell that counts as expired now. So is text that other programs
+ * write with other spaces or other spellings of a number.
  *
  * To put the cell into a table, report it as it is at a minute t that is not before
- * m1, not before the table's clock and not after the expiry: at x + vx * t and
+ * m1, not before the table's clock and before the expiry: at x + vx * t and
  * y + vy * t. The cell is the same for every such t, but t becomes the clock. Where
  * it is refused as out of range a sheet takes it (docs/MANUAL.md, section 8).
  */

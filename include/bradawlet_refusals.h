@@ -22,7 +22,7 @@ enum bradawlet_refusal {
     /* The minute of a report or a drop, or the start of a query, is before the
        table's clock; of a meeting test, the start is before the report's minute. */
     BRADAWLET_BEFORE_CLOCK = 5,
-    /* The report's expiry is before its minute. */
+    /* The report's expiry is not after its minute. */
     BRADAWLET_EXPIRES_FIRST = 6,
     /* The query's end is before its start, a low edge is above its high edge, or
        a moving query has its end at its start. */

@@ -47,8 +47,8 @@ enum bradawlet_answer {
  *   x, y     where it was at the report's minute   -100000 to 100000 each
  *   vx, vy   how it moves from there               -512 to 512 each
  *   minute   when it was reported                  0 to 1440
- *   expiry   the last minute for which its track
- *            can be trusted                        0 to 1440
+ *   expiry   the minute from which on its track
+ *            says nothing                          0 to 1440
  *
  * The window:
  *   start    the first minute asked about          0 to 1440
@@ -58,14 +58,14 @@ enum bradawlet_answer {
  *            the edges of the rectangle            -100000 to 100000 each
  *
  * The answer is BRADAWLET_YES exactly when at one instant, from start to end
- * and not after expiry, x and y both lie within the rectangle. Instants between
- * whole minutes count, and so do the edges, the start, the end and the expiry.
- * It is BRADAWLET_NO exactly when there is no such instant. Or it is a refusal,
- * for the first of these reasons that holds:
+ * and before expiry, x and y both lie within the rectangle. Instants between
+ * whole minutes count, and so do the edges, the start and the end, but the expiry
+ * does not. It is BRADAWLET_NO exactly when there is no such instant. Or it is a
+ * refusal, for the first of these reasons that holds:
  *
  *   BRADAWLET_OUT_OF_RANGE    an argument is outside its range
  *   BRADAWLET_BEFORE_CLOCK    start is before minute
- *   BRADAWLET_EXPIRES_FIRST   expiry is before minute
+ *   BRADAWLET_EXPIRES_FIRST   expiry is not after minute
  *   BRADAWLET_BACKWARD        end is before start, or a low edge is above its
  *                             high edge
  */
@@ -90,8 +90,8 @@ int32_t bradawlet_meets(int32_t id, int32_t x, int32_t y, int32_t vx, int32_t vy
  *   x, vx    where it was at minute 0, and how
  *            it moves                              -837280 to 837280, -512 to 512
  *   y, vy    the same for y
- *   expiry   the last minute for which its track
- *            can be trusted                        clock to 1440
+ *   expiry   the minute from which on its track
+ *            says nothing                          clock + 1 to 1440
  *
  * The answer is BRADAWLET_YES, and never BRADAWLET_NO. Or it is a refusal, for
  * the first of these reasons that holds:

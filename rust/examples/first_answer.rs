@@ -17,7 +17,7 @@ fn main() -> Result<(), Refusal> {
 
     for cell in table.cells()? {
         let (x, y) = cell.at(20);
-        println!("cell {} is at ({x}, {y}) at minute 20, and is trusted until {}", cell.id, cell.expiry);
+        println!("cell {} is at ({x}, {y}) at minute 20, and is live until {}", cell.id, cell.expiry);
     }
     Ok(())
 }

@@ -8,7 +8,6 @@ const CLOCK: i32 = 10;
 fn main() -> Result<(), Refusal> {
     let mut table = Table::new(256)?;
     table.report(&Report { id: 7, x: 100, y: 200, vx: 5, vy: -3, minute: CLOCK, expiry: 40 })?;
-    table.report(&Report { id: 8, x: 31, y: -1, vx: 1, vy: 1, minute: CLOCK, expiry: CLOCK })?;
     table.report(&Report { id: 9, x: 0, y: 0, vx: 3, vy: 3, minute: CLOCK, expiry: 30 })?;
     let text = table.to_tracks()?;
     print!("{text}");
@@ -16,14 +15,16 @@ fn main() -> Result<(), Refusal> {
     let mut other = Table::new(256)?;
     // A line is read with its line feed, which `split_inclusive` leaves and `lines` takes off.
     for (cell, line) in table.cells()?.zip(text.split_inclusive('\n')) {
-        match read_track(cell.id, line) {
-            Ok(read) => other.report(&report_of(&read))?,
-            // A point: the cell is in its last minute, and is passed over.
-            Err(refusal) => println!("cell {}: {refusal}", cell.id),
-        }
+        other.report(&report_of(&read_track(cell.id, line)?))?;
     }
     for cell in other.cells()? {
         println!("cell {} is at {:?} at minute {CLOCK}, until {}", cell.id, cell.at(CLOCK), cell.expiry);
+    }
+    // A line from elsewhere may be no track of a cell: one point has no velocity.
+    let point = "POINT M (310 -10 10)\n";
+    match read_track(8, point) {
+        Ok(read) => other.report(&report_of(&read))?,
+        Err(refusal) => print!("{refusal}: {point}"),
     }
     Ok(())
 }

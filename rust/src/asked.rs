@@ -17,9 +17,9 @@ pub struct Report {
     pub vx: i32,
     /// How it moves, -512 to 512.
     pub vy: i32,
-    /// When it was seen, 0 to 1,440.
+    /// When it was seen, 0 to 1,440; at 1,440 it is refused, as no expiry is after that.
     pub minute: i32,
-    /// The last minute for which its track can be trusted, 0 to 1,440.
+    /// The minute from which on its track says nothing, 0 to 1,440, after the report's minute.
     pub expiry: i32,
 }
 
@@ -74,7 +74,7 @@ pub struct Cell {
     pub y: i32,
     /// How it moves.
     pub vy: i32,
-    /// The last minute for which its track can be trusted.
+    /// The minute from which on its track says nothing.
     pub expiry: i32,
 }
 
@@ -83,7 +83,7 @@ impl Cell {
         Cell { id, x, vx, y, vy, expiry }
     }
 
-    /// Where its straight track is at a minute, x and y. It says nothing of the cell past its expiry.
+    /// Where its straight track is at a minute, x and y. It says nothing of the cell from its expiry on.
     ///
     /// ```
     /// use bradawlet::Cell;

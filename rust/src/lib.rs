@@ -1,5 +1,5 @@
 //! Bradawlet is an index of moving storm cells. Each cell is a point that moves in a straight line from where
-//! radar saw it, and each has a minute past which it says nothing. Asked for a rectangle, still or moving,
+//! radar saw it, and each has a minute from which on it says nothing. Asked for a rectangle, still or moving,
 //! and a span of minutes, it lists the cells whose tracks meet it at one instant, fractions of a minute
 //! counted. What it cannot answer, such as a window whose end is before its start, it refuses by number and
 //! never with an empty list.

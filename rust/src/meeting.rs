@@ -4,8 +4,9 @@ use crate::asked::{Moving, Report, Window};
 use crate::calls;
 use crate::refusal::{refusal_of, Refusal};
 
-/// Whether the track of a reported cell meets a window: at one instant, from start to end and not after the
-/// cell's expiry, x and y both lie within the rectangle. Fractions of a minute count, and so do the edges.
+/// Whether the track of a reported cell meets a window: at one instant, from start to end and before the
+/// cell's expiry, x and y both lie within the rectangle. Fractions of a minute count, and so do the edges,
+/// the start and the end, but the expiry does not.
 ///
 /// # Errors
 ///
@@ -22,6 +23,9 @@ use crate::refusal::{refusal_of, Refusal};
 /// assert_eq!(meets(&report, &Window { start: 0, end: 1, rectangle: point }), Ok(true));
 /// assert_eq!(meets(&report, &Window { start: 1, end: 2, rectangle: point }), Ok(false));
 /// assert_eq!(meets(&report, &Window { start: 1, end: 0, rectangle: point }), Err(Refusal::Backward));
+/// // At its expiry the track is here, but the cell says nothing any more.
+/// let there = Rectangle { xlow: 120, xhigh: 120, ylow: 120, yhigh: 120 };
+/// assert_eq!(meets(&report, &Window { start: 39, end: 40, rectangle: there }), Ok(false));
 /// ```
 pub fn meets(report: &Report, window: &Window) -> Result<bool, Refusal> {
     yes_or_no(calls::meets(report, window))

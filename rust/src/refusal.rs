@@ -32,7 +32,7 @@ pub enum Refusal {
     /// [`meets`](crate::meets) and [`meets_moving`](crate::meets_moving): the query starts before the
     /// report's minute.
     BeforeClock = 5,
-    /// The report's expiry is before its minute.
+    /// The report's expiry is not after its minute.
     ExpiresFirst = 6,
     /// The query's end is before its start, a low edge is above its high edge, or a moving query ends at the
     /// minute at which it starts.
@@ -46,8 +46,8 @@ pub enum Refusal {
     ShortList = 10,
     /// The sheet's header is wrong, or the bytes are not as many as it says.
     BadHeader = 11,
-    /// A record of the sheet is out of range or expires before the sheet's clock, or the identifiers do not
-    /// rise.
+    /// A record of the sheet is out of range, its expiry is not after the sheet's clock, or the identifiers
+    /// do not rise.
     BadRecord = 12,
     /// The bytes are too few for the sheet or for the text.
     ShortBytes = 13,
@@ -102,7 +102,7 @@ impl Refusal {
             Refusal::ShortTable => "the words are too few for the capacity",
             Refusal::OutOfRange => "an argument is outside its range",
             Refusal::BeforeClock => "the minute or the query's start is before the clock or the report",
-            Refusal::ExpiresFirst => "the report's expiry is before its minute",
+            Refusal::ExpiresFirst => "the report's expiry is not after its minute",
             Refusal::Backward => "the query goes backward",
             Refusal::NotLive => "the cell is not live",
             Refusal::Full => "there are more cells than the table is for",

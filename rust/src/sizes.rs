@@ -4,7 +4,8 @@
 pub const MOST_CELLS: usize = 256;
 
 /// The version of the layout of a table's words. Words that were kept from another version of this crate are
-/// a table for this one only if the two agree here.
+/// a table for this one only if the two agree here. In 0.2.0, which had this layout too, the expiry itself was
+/// still part of a cell's life: a cell whose expiry is the clock of such words counts as expired now.
 pub const LAYOUT: i32 = 1;
 
 /// The words that a table for so many cells needs, from 1 to 256: 16 + 96 × (cells / 2 rounded down + 1). It

@@ -119,8 +119,9 @@ impl<W: AsRef<[i32]>> Table<W> {
 
     /// The cells that meet a window, in a list of its own, and how many nodes were opened to find them.
     ///
-    /// A cell meets the window when at one instant, from start to end and not after the cell's expiry, x and
-    /// y both lie within the rectangle. Fractions of a minute count, and so do the edges.
+    /// A cell meets the window when at one instant, from start to end and before the cell's expiry, x and y
+    /// both lie within the rectangle. Fractions of a minute count, and so do the edges, the start and the
+    /// end, but the expiry does not.
     ///
     /// # Errors
     ///
@@ -225,7 +226,7 @@ impl<W: AsRef<[i32]>> Table<W> {
         listed(&answer, list)
     }
 
-    /// The live cells by rising identifier.
+    /// The live cells, those whose expiry is after the clock, by rising identifier.
     ///
     /// # Errors
     ///
@@ -307,8 +308,8 @@ impl<W: AsRef<[i32]>> Table<W> {
 
     /// The tracks of the live cells as well-known text, for map programs: a line for each, by rising
     /// identifier as [`cells`](Table::cells) has them. `LINESTRING M (x y m, x y m)` is where the cell is at
-    /// the clock and where at its expiry, in whole metres, each with its minute; a cell whose expiry is the
-    /// clock gives `POINT M (x y m)`. Each line ends in a line feed, and no line says which cell it is of.
+    /// the clock and where its track is at its expiry, in whole metres, each with its minute. Each line ends
+    /// in a line feed, and no line says which cell it is of.
     ///
     /// It is a `String`, not bytes as a sheet is, because it is text to be printed, split into lines and
     /// stored, and all of it is ASCII.
@@ -407,7 +408,9 @@ impl<W: AsRef<[i32]> + AsMut<[i32]>> Table<W> {
     }
 
     /// Puts a cell in, in the place of a live one of the same identifier, and sets the clock to the report's
-    /// minute.
+    /// minute. Cells whose expiry is not after it have expired: their room is used again, and nothing finds
+    /// them. So a cell and its successor, reported in the very minute of its expiry, are never found
+    /// together.
     ///
     /// # Errors
     ///
@@ -423,6 +426,10 @@ impl<W: AsRef<[i32]> + AsMut<[i32]>> Table<W> {
     /// table.report(&report)?;
     /// assert_eq!(table.report(&Report { id: 8, ..report }), Err(Refusal::Full));
     /// assert_eq!(table.report(&Report { minute: 9, ..report }), Err(Refusal::BeforeClock));
+    /// assert_eq!(table.report(&Report { expiry: 10, ..report }), Err(Refusal::ExpiresFirst));
+    /// // Cell 7 expires at 40, and there is room for its successor.
+    /// table.report(&Report { id: 8, x: 250, y: 110, minute: 40, expiry: 70, ..report })?;
+    /// assert_eq!(table.cells()?.map(|cell| cell.id).collect::<Vec<i32>>(), [8]);
     /// # Ok::<(), Refusal>(())
     /// ```
     pub fn report(&mut self, report: &Report) -> Result<(), Refusal> {
@@ -441,7 +448,7 @@ impl<W: AsRef<[i32]> + AsMut<[i32]>> Table<W> {
     ///
     /// let mut table = Table::new(1)?;
     /// table.report(&Report { id: 7, x: 100, y: 200, vx: 5, vy: -3, minute: 10, expiry: 40 })?;
-    /// assert_eq!(table.drop_cell(7, 41), Err(Refusal::NotLive));
+    /// assert_eq!(table.drop_cell(7, 40), Err(Refusal::NotLive));
     /// assert_eq!(table.drop_cell(7, 12), Ok(()));
     /// # Ok::<(), Refusal>(())
     /// ```

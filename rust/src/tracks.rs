@@ -12,7 +12,7 @@ use crate::refusal::{accepted, another_library, Refusal};
 /// off, and then every line is refused.
 ///
 /// To put the cell into a table, report it where it is [`at`](Cell::at) a minute that is not before the first
-/// point's, not before the table's clock and not after the expiry. The cell is the same for each of them, but
+/// point's, not before the table's clock and before the expiry. The cell is the same for each of them, but
 /// the minute becomes the clock. Where it is out of range for a report, a sheet takes it.
 ///
 /// # Errors
@@ -20,8 +20,8 @@ use crate::refusal::{accepted, another_library, Refusal};
 /// [`NoTrack`](Refusal::NoTrack) if the text is anything else, if the first minute is not before the second,
 /// if a position is no multiple of 10 metres, if a velocity does not come out whole, and if the identifier, a
 /// minute, a velocity or a position at minute 0 is outside its range. The two points may lie anywhere. A
-/// `POINT M` line has no velocity, so it is refused as well: it is a cell in its last minute, to be passed
-/// over; a sheet carries it.
+/// `POINT M` line has no velocity and is refused as well. None is written; 0.2.0 wrote one for a cell whose
+/// expiry was the clock, which counts as expired now.
 ///
 /// ```
 /// use bradawlet::{read_track, Cell, Refusal};
@@ -49,7 +49,8 @@ mod tests {
 
     #[test]
     fn bytes_of_lines_are_text() {
-        assert_eq!(text(b"POINT M (310 -10 10)\n".to_vec()), "POINT M (310 -10 10)\n");
+        let line = "LINESTRING M (310 -10 10, 320 0 11)\n";
+        assert_eq!(text(line.as_bytes().to_vec()), line);
     }
 
     #[test]

@@ -34,13 +34,12 @@ fn with(clock: i32, cells: &[Cell]) -> Table<Vec<i32>> {
 fn the_text_has_a_line_for_each_live_cell() {
     let mut table = with_two_cells();
     assert_eq!(table.to_tracks().expect("sound"), format!("{LINE}LINESTRING M (0 0 10, 600 600 30)\n"));
-    table.drop_cell(9, 30).expect("live in its last minute");
-    table.report(&Report { id: 9, minute: 30, ..NINE }).expect("there is room");
-    let last_minute = "LINESTRING M (2000 1400 30, 2500 1100 40)\nPOINT M (0 0 30)\n";
-    assert_eq!(table.to_tracks().expect("sound"), last_minute);
-    table.report(&Report { minute: 31, ..SEVEN }).expect("there is room");
-    assert_eq!(table.to_tracks().expect("sound"), "LINESTRING M (1000 2000 31, 1450 1730 40)\n");
-    table.drop_cell(7, 31).expect("live");
+    table.report(&Report { minute: 29, ..NINE }).expect("there is room");
+    let minute_before = "LINESTRING M (1950 1430 29, 2500 1100 40)\nLINESTRING M (0 0 29, 30 30 30)\n";
+    assert_eq!(table.to_tracks().expect("sound"), minute_before);
+    table.report(&Report { minute: 30, ..SEVEN }).expect("there is room");
+    assert_eq!(table.to_tracks().expect("sound"), "LINESTRING M (1000 2000 30, 1500 1700 40)\n");
+    table.drop_cell(7, 39).expect("live until 40");
     assert_eq!(table.to_tracks().expect("sound"), "");
 }
 
@@ -80,7 +79,7 @@ fn the_longest_lines_fill_what_is_enough() {
 }
 
 #[test]
-fn each_line_is_its_cell_again_but_for_points() {
+fn each_line_is_its_cell_again() {
     let cells: Vec<Cell> = (1..=40)
         .map(|k| Cell {
             id: k * k * 1_000_003,
@@ -88,16 +87,15 @@ fn each_line_is_its_cell_again_but_for_points() {
             vx: 512 - 25 * k,
             y: 7 * k - 100,
             vy: k % 3 - 1,
-            expiry: 700 + k / 2,
+            expiry: 701 + k / 2,
         })
         .collect();
     let table = with(700, &cells);
     let text = table.to_tracks().expect("sound");
     assert_eq!(text.split_inclusive('\n').count(), cells.len());
     for (cell, line) in table.cells().expect("sound").zip(text.split_inclusive('\n')) {
-        let read = if cell.expiry == 700 { Err(Refusal::NoTrack) } else { Ok(cell) };
-        assert_eq!(line.starts_with("POINT M ("), cell.expiry == 700);
-        assert_eq!(read_track(cell.id, line), read);
+        assert!(line.starts_with("LINESTRING M ("), "{line}");
+        assert_eq!(read_track(cell.id, line), Ok(cell));
     }
 }
 
@@ -123,4 +121,6 @@ fn no_part_of_a_line_and_no_more_than_one_is_read() {
     assert_eq!(read_track(7, LINE.replace('\n', "\r\n")), Err(Refusal::NoTrack));
     assert_eq!(read_track(7, LINE.to_lowercase()), Err(Refusal::NoTrack));
     assert_eq!(read_track(7, [0xff; 42]), Err(Refusal::NoTrack));
+    assert_eq!(read_track(7, "POINT M (2500 1100 40)\n"), Err(Refusal::NoTrack));
+    assert_eq!(read_track(7, "LINESTRING M (2500 1100 40, 2500 1100 40)\n"), Err(Refusal::NoTrack));
 }

@@ -126,8 +126,10 @@ static void put(int32_t *table, const int32_t cell[6])
 static void check_queries(void)
 {
     static const int32_t third[6] = {9, 0, 3, 0, 3, 40}, expired[6] = {5, 0, 0, 0, 0, 9},
-                         still[6] = {INT32_MAX, 1, 0, 1, 0, 1440}, early[6] = {2, 1, 0, 1, 0, 10};
-    static const int32_t none[1] = {0}, at_11[2] = {9, INT32_MAX}, at_10[2] = {2, INT32_MAX};
+                         still[6] = {INT32_MAX, 1, 0, 1, 0, 1440}, ended[6] = {2, 1, 0, 1, 0, 10},
+                         brief[6] = {3, 1, 0, 1, 0, 11};
+    static const int32_t none[1] = {0}, at_11[2] = {9, INT32_MAX}, at_10[2] = {3, INT32_MAX},
+                         later[1] = {INT32_MAX};
     const size_t words = BRADAWLET_WORDS(CELLS) + EXTRA;
     const struct query whole = {10, 11, {-9, 9, -9, 9}, {-9, 9, -9, 9}};
     const struct answer unsound = {BRADAWLET_NOT_SOUND, 0, 0};
@@ -143,7 +145,8 @@ static void check_queries(void)
     put(table, still);
     put(table, third);
     put(table, expired);
-    put(table, early);
+    put(table, ended);
+    put(table, brief);
     table[1] = 10;
 
     struct query q = {11, 12, {1, 34, 1, 34}, {1, 34, 1, 34}};
@@ -152,7 +155,15 @@ static void check_queries(void)
     check_query("two hits, one place", table, words, 1, q, (struct answer){10, 2, 0}, none);
     check_query("two hits, no list", table, words, 0, q, (struct answer){10, 2, 0}, none);
     q = (struct query){10, 11, {1, 1, 1, 1}, {1, 1, 1, 1}};
-    check_query("at the expiry", table, words, PLACES, q, (struct answer){0, 2, 1}, at_10);
+    check_query("at the expiry of 2", table, words, PLACES, q, (struct answer){0, 2, 1}, at_10);
+    q = (struct query){11, 12, {1, 1, 1, 1}, {1, 1, 1, 1}};
+    check_query("at the expiry of 3", table, words, PLACES, q, (struct answer){0, 1, 1}, later);
+    q = (struct query){39, 40, {119, 119, 119, 119}, {119, 119, 119, 119}};
+    check_query("a third before the expiry", table, words, PLACES, q, (struct answer){0, 1, 1}, at_11);
+    q = (struct query){39, 40, {120, 120, 120, 120}, {120, 120, 120, 120}};
+    check_query("at three thirds, the expiry", table, words, PLACES, q, (struct answer){0, 0, 1}, none);
+    q = (struct query){40, 41, {119, 123, 119, 123}, {119, 123, 119, 123}};
+    check_query("from the expiry on", table, words, PLACES, q, (struct answer){0, 0, 1}, none);
     q = (struct query){11, 12, {34, 34, 34, 34}, {34, 34, 34, 34}};
     check_query("at a third of a minute", table, words, PLACES, q, (struct answer){0, 1, 1}, at_11);
     q = (struct query){11, 12, {34, 34, 35, 35}, {34, 34, 35, 35}};
@@ -183,8 +194,12 @@ static void check_queries(void)
     wrong.end = wrong.start;
     check("7: start equals end", is(moving(table, words, list, PLACES, wrong), 7, 0, 0));
     check("a window of one instant", is(window(table, words, list, PLACES, wrong), 0, 2, 1));
+    wrong.start = wrong.end = 11;
+    check("a window of the next instant", is(window(table, words, list, PLACES, wrong), 0, 1, 1));
     q = (struct query){10, 20, {0, 0, 0, 0}, {60, 60, 60, 60}};
-    check("met at 10 and 1/6, and at the end", is(moving(table, words, list, PLACES, q), 0, 2, 1));
+    check("two met at 10 and 1/6, one at the end", is(moving(table, words, list, PLACES, q), 0, 3, 1));
+    q = (struct query){10, 11, {0, 0, 1, 1}, {1, 1, 1, 1}};
+    check("one met at the end, one not at its expiry", is(moving(table, words, list, PLACES, q), 0, 1, 1));
 
     table[16 + 96 * table[2]] = 9;
     check_query("nine entries", table, words, 0, wrong, unsound, none);
@@ -277,6 +292,16 @@ static void check_reads(const uint8_t two[BRADAWLET_SHEET(2)])
     memcpy(wrong, two, total);
     wrong[36] = 9;
     check_read("12: expired", words, CELLS, wrong, total, BRADAWLET_BAD_RECORD);
+    wrong[36] = 10;
+    check_read("12: expired at the clock", words, CELLS, wrong, total, BRADAWLET_BAD_RECORD);
+    check_read("9 before 12: expired at the clock", words, 1, wrong, total, BRADAWLET_FULL);
+    wrong[36] = 12;
+    check_read("two minutes to live", words, CELLS, wrong, total, BRADAWLET_DONE);
+    memcpy(wrong, two, total);
+    wrong[8] = 11;
+    check_read("12: clock at an expiry", words, CELLS, wrong, total, BRADAWLET_BAD_RECORD);
+    wrong[8] = 9;
+    check_read("clock two minutes before an expiry", words, CELLS, wrong, total, BRADAWLET_DONE);
     memcpy(wrong + 16, two + 40, 24);
     memcpy(wrong + 40, two + 16, 24);
     check_read("12: falling identifiers", words, CELLS, wrong, total, BRADAWLET_BAD_RECORD);
@@ -285,15 +310,15 @@ static void check_reads(const uint8_t two[BRADAWLET_SHEET(2)])
 static void check_sheets(void)
 {
     static const int32_t late[6] = {INT32_MAX, -837280, 0, 1, -512, 1440},
-                         expired[6] = {5, 0, 0, 0, 0, 9}, early[6] = {2, 1, 3, -1, 0, 10},
-                         none[6] = {0, 0, 0, 0, 0, 0};
+                         expired[6] = {5, 0, 0, 0, 0, 9}, ended[6] = {4, 7, 1, 7, 1, 10},
+                         brief[6] = {2, 1, 3, -1, 0, 11}, none[6] = {0, 0, 0, 0, 0, 0};
     static const uint8_t empty[BRADAWLET_SHEET(0)] = {0, 0, 0, 0, 16, 0, 0, 0,
                                                       0, 0, 0, 0, 16, 0, 0, 0};
     /* The header, and two lines for each record. -837280 is 0xfff33960, and -512 is 0xfffffe00. */
     static const uint8_t two[BRADAWLET_SHEET(2)] = {
         2,    0,    0,    0,    16,   0,    0,    0,    10,   0,    0,    0,    64,   0,    0,    0,
         2,    0,    0,    0,    1,    0,    0,    0,    3,    0,    0,    0,
-        0xff, 0xff, 0xff, 0xff, 0,    0,    0,    0,    10,   0,    0,    0,
+        0xff, 0xff, 0xff, 0xff, 0,    0,    0,    0,    11,   0,    0,    0,
         0xff, 0xff, 0xff, 0x7f, 0x60, 0x39, 0xf3, 0xff, 0,    0,    0,    0,
         1,    0,    0,    0,    0,    0xfe, 0xff, 0xff, 0xa0, 5,    0,    0};
     const size_t words = BRADAWLET_WORDS(CELLS) + EXTRA;
@@ -314,14 +339,16 @@ static void check_sheets(void)
 
     put(table, late);
     put(table, expired);
-    put(table, early);
+    put(table, ended);
+    put(table, brief);
     table[1] = 10;
     for (size_t length = 0; length < 80; length++)
         check_write("two live cells", table, words, length,
                     length < 64 ? BRADAWLET_SHORT_BYTES : BRADAWLET_DONE, two, 64);
-    check_next("the first cell", table, words, 0, BRADAWLET_ONE, early);
-    check_next("the first from below 0", table, words, INT32_MIN, BRADAWLET_ONE, early);
+    check_next("the first cell", table, words, 0, BRADAWLET_ONE, brief);
+    check_next("the first from below 0", table, words, INT32_MIN, BRADAWLET_ONE, brief);
     check_next("the second cell", table, words, 2, BRADAWLET_ONE, late);
+    check_next("past the cell that expires now", table, words, 3, BRADAWLET_ONE, late);
     check_next("past the expired cell", table, words, 5, BRADAWLET_ONE, late);
     check_next("the last cell once more", table, words, INT32_MAX - 1, BRADAWLET_ONE, late);
     check_next("no more", table, words, INT32_MAX, BRADAWLET_NONE, none);
@@ -364,12 +391,13 @@ static void check_line_read(int32_t id, const char *line, const int32_t *cell)
     check_bytes_read(line, id, line, strlen(line), cell);
 }
 
-/* Expired, in the last minute, and two others, one as far out and as fast as can be. */
+/* Expired, expired in this very minute, and three others, one as far out and as fast as can be. */
 static void check_texts(void)
 {
     static const int32_t late[6] = {INT32_MAX, -837280, 0, 1, -512, 1440}, still[6] = {3, 0, 0, 7, 0, 11},
-                         expired[6] = {5, 0, 0, 0, 0, 9}, early[6] = {2, 1, 3, -1, 0, 10};
-    static const char three[] = "POINT M (310 -10 10)\n"
+                         expired[6] = {5, 0, 0, 0, 0, 9}, ended[6] = {4, 1, 3, -1, 0, 10},
+                         early[6] = {2, 1, 3, -1, 0, 12};
+    static const char three[] = "LINESTRING M (310 -10 10, 370 -10 12)\n"
                                 "LINESTRING M (0 70 10, 0 70 11)\n"
                                 "LINESTRING M (-8372800 -51190 10, -8372800 -7372790 1440)\n";
     const size_t words = BRADAWLET_WORDS(CELLS) + EXTRA;
@@ -383,11 +411,14 @@ static void check_texts(void)
     put(table, expired);
     table[1] = 10;
     check_all_lengths("no track of an expired cell", table, words, "");
+    put(table, ended);
+    check_all_lengths("no track in the minute of the expiry", table, words, "");
     put(table, late);
     put(table, still);
     put(table, early);
     check_all_lengths("three tracks", table, words, three);
-    check_line_read(2, "POINT M (310 -10 10)\n", NULL);
+    check_line_read(4, "POINT M (310 -10 10)\n", NULL);
+    check_line_read(2, "LINESTRING M (310 -10 10, 370 -10 12)\n", early);
     check_line_read(3, "LINESTRING M (0 70 10, 0 70 11)\n", still);
     check_line_read(INT32_MAX, "LINESTRING M (-8372800 -51190 10, -8372800 -7372790 1440)\n", late);
     table[16 + 96 * table[2]] = 9;
@@ -560,6 +591,84 @@ static void check_desk_run(void)
     give_back(table);
 }
 
+/* Nine live cells: 2 and 4 to 9 expire at 30, 3 at 31, and one later. In the minute of their expiry
+   the seven are gone, and seven others have their room, with the same identifier or another. */
+static void check_successors(int32_t *table, size_t words)
+{
+    static const int32_t before[6] = {29, 29, 409, 409, 0, 0}, at_expiry[6] = {30, 30, 410, 410, 0, 0};
+    check_report("9: a minute before", table, words, (int32_t[7]){50, 0, 0, 0, 0, 29, 40}, BRADAWLET_FULL);
+    check_window("4 a minute before", table, words, before, 0, 4);
+    check_window("4 no more at its expiry", table, words, at_expiry, 0, 0);
+    check_drop("8: at the expiry", table, words, 4, 30, BRADAWLET_NOT_LIVE);
+    check_report("6: at the expiry", table, words, (int32_t[7]){4, 410, 0, 1, 0, 30, 30}, 6);
+    int32_t *other = copy(table, words);
+    check_report("another's successor", other, words, (int32_t[7]){51, 410, 0, 1, 0, 30, 31}, 0);
+    check_window("that successor alone", other, words, at_expiry, 0, 51);
+    check_drop("8: another's predecessor", other, words, 4, 30, BRADAWLET_NOT_LIVE);
+    give_back(other);
+    check_report("its own successor", table, words, (int32_t[7]){4, 410, 0, 1, 0, 30, 31}, 0);
+    check_window("the successor alone", table, words, at_expiry, 0, 4);
+    check_report("of another number", table, words, (int32_t[7]){51, 510, 0, 1, 0, 30, 31}, 0);
+    check_window("51 alone, where 5 was", table, words, (int32_t[6]){30, 30, 510, 510, 0, 0}, 0, 51);
+    for (int32_t id = 52; id < 52 + CELLS - 4; id++)
+        check_report("at the expiry", table, words, (int32_t[7]){id, 0, id, 0, 0, 30, 31}, 0);
+    check_report("9: full again", table, words, (int32_t[7]){70, 0, 0, 0, 0, 30, 31}, BRADAWLET_FULL);
+    check_drop("8: expired", table, words, 2, 30, BRADAWLET_NOT_LIVE);
+    check_drop("dropped in the minute before", table, words, 4, 30, BRADAWLET_DONE);
+    check_drop("8: all but one at 31", table, words, 51, 31, BRADAWLET_NOT_LIVE);
+    check_drop("the one", table, words, INT32_MAX, 31, BRADAWLET_DONE);
+}
+
+/* Nothing lives at minute 1440: it can be asked for, and a table may stand there, but no cell is put
+   in. */
+static void check_last_minute(void)
+{
+    static const uint8_t empty[BRADAWLET_SHEET(0)] = {0,    0, 0, 0, 16, 0, 0, 0,
+                                                      0xa0, 5, 0, 0, 16, 0, 0, 0};
+    static const int32_t header[4] = {1, 16, 1440, BRADAWLET_SHEET(1)},
+                         cell[6] = {1, 0, 0, 0, 0, 1440}, at_1440[7] = {1, 0, 0, 0, 0, 1440, 1440},
+                         asked[6] = {1440, 1440, -9, 9, -9, 9};
+    const size_t words = BRADAWLET_WORDS(CELLS);
+    uint8_t sheet[BRADAWLET_SHEET(1)];
+    int32_t *table = rubbish(words);
+
+    check("a fresh table", bradawlet_fresh(table, words, CELLS) == BRADAWLET_DONE);
+    check_report("6: at 1440", table, words, at_1440, 6);
+    check_report("a minute to live", table, words, (int32_t[7]){1, 0, 0, 0, 0, 1439, 1440}, 0);
+    check_report("6: at 1440, live", table, words, at_1440, 6);
+    check_window("there at 1439", table, words, (int32_t[6]){1439, 1440, -9, 9, -9, 9}, 0, 1);
+    check_window("not at 1440", table, words, asked, 0, 0);
+    check_drop("8: at 1440", table, words, 1, 1440, BRADAWLET_NOT_LIVE);
+    check_drop("dropped at 1439", table, words, 1, 1439, BRADAWLET_DONE);
+
+    check_read("no cell at 1440", words, CELLS, empty, sizeof empty, BRADAWLET_DONE);
+    put_words(put_words(sheet, header, 4), cell, BRADAWLET_RECORD);
+    check_read("12: a cell at 1440", words, CELLS, sheet, sizeof sheet, BRADAWLET_BAD_RECORD);
+    sheet[8]--;
+    check_read("a cell at 1439", words, CELLS, sheet, sizeof sheet, BRADAWLET_DONE);
+    check("a table at 1440",
+          bradawlet_read(table, words, CELLS, empty, sizeof empty) == BRADAWLET_DONE && table[1] == 1440);
+    check_report("6: a table at 1440", table, words, at_1440, 6);
+    check_report("5: a table at 1440", table, words, (int32_t[7]){1, 0, 0, 0, 0, 1439, 1440}, 5);
+    check_drop("8: a table at 1440", table, words, 1, 1440, BRADAWLET_NOT_LIVE);
+    check_window("none in a table at 1440", table, words, asked, 0, 0);
+    check_tracks("no line at 1440", table, words, 0, BRADAWLET_DONE, "");
+    give_back(table);
+}
+
+/* Nine cells stand in two leaves below the root, and all expire at 30: from then on neither leaf is
+   opened. */
+static void check_opened(const int32_t *table, size_t words)
+{
+    const struct query before = {29, 29, {-9999, 9999, -9999, 9999}, {0, 0, 0, 0}};
+    const struct query at_expiry = {30, 40, {-9999, 9999, -9999, 9999}, {-9999, 9999, -9999, 9999}};
+    int32_t *list = rubbish(CELLS);
+    check("all nodes opened", is(window(table, words, list, CELLS, before), 0, CELLS, 3));
+    check("the root alone opened", is(window(table, words, list, CELLS, at_expiry), 0, 0, 1));
+    check("the root alone opened", is(moving(table, words, list, CELLS, at_expiry), 0, 0, 1));
+    give_back(list);
+}
+
 static void check_full(void)
 {
     const size_t words = BRADAWLET_WORDS(CELLS) + EXTRA;
@@ -568,13 +677,19 @@ static void check_full(void)
     check("a fresh table", bradawlet_fresh(table, words, CELLS) == BRADAWLET_DONE);
     for (int32_t id = 1; id <= CELLS; id++)
         check_report("filled", table, words, (int32_t[7]){id, 100 * id, 0, 1, 0, 20, 30}, 0);
+    check_opened(table, words);
     check_report("9: full", table, words, other, BRADAWLET_FULL);
     check_report("6 before 9", table, words, (int32_t[7]){50, 0, 0, 0, 0, 20, 19}, 6);
+    check_report("6 before 9: as reported", table, words, (int32_t[7]){50, 0, 0, 0, 0, 20, 20}, 6);
+    check_report("6: live, as reported", table, words, (int32_t[7]){3, 0, 0, 0, 0, 20, 20}, 6);
     check_report("5 before 6", table, words, (int32_t[7]){50, 0, 0, 0, 0, 19, 18}, 5);
+    check_report("5 before 6: as reported", table, words, (int32_t[7]){50, 0, 0, 0, 0, 19, 19}, 5);
+    check_report("4 before 6: as reported", table, words, (int32_t[7]){50, 0, 0, 0, 513, 20, 20}, 4);
     check_report("4 before 5", table, words, (int32_t[7]){0, 0, 0, 0, 0, 19, 18}, 4);
     check_report("4: too fast", table, words, (int32_t[7]){1, 0, 0, 513, 0, 20, 30}, 4);
     check_report("replaced when full", table, words, (int32_t[7]){3, -500, 0, 0, 0, 20, 31}, 0);
-    check_window("there", table, words, (int32_t[6]){31, 31, -500, -500, 0, 0}, 0, 3);
+    check_window("there", table, words, (int32_t[6]){30, 30, -500, -500, 0, 0}, 0, 3);
+    check_window("there no more", table, words, (int32_t[6]){31, 31, -500, -500, 0, 0}, 0, 0);
     check_window("not there", table, words, (int32_t[6]){20, 20, 300, 300, 0, 0}, 0, 0);
     check_drop("8: not held", table, words, 50, 20, BRADAWLET_NOT_LIVE);
     check_drop("4: no identifier", table, words, 0, 20, BRADAWLET_OUT_OF_RANGE);
@@ -583,12 +698,7 @@ static void check_full(void)
     check_drop("dropped", table, words, 1, 20, 0);
     check_drop("8: dropped before", table, words, 1, 20, BRADAWLET_NOT_LIVE);
     check_report("in its room", table, words, other, 0);
-    check_report("9: full at the expiry", table, words, (int32_t[7]){50, 0, 0, 0, 0, 30, 40}, 9);
-    /* A minute later all but two have expired: seven go in, and an eighth does not. */
-    for (int32_t id = 51; id < 51 + CELLS - 2; id++)
-        check_report("after the expiry", table, words, (int32_t[7]){id, 0, id, 0, 0, 31, 31}, 0);
-    check_report("9: full again", table, words, (int32_t[7]){70, 0, 0, 0, 0, 31, 31}, 9);
-    check_drop("8: expired", table, words, 2, 31, BRADAWLET_NOT_LIVE);
+    check_successors(table, words);
     table[16 + 96 * table[2]] = 9;
     check_report("1 before 4", table, words, (int32_t[7]){0, 0, 0, 0, 0, 31, 31}, 1);
     check_drop("1: nine entries", table, words, 3, 31, BRADAWLET_NOT_SOUND);
@@ -677,6 +787,7 @@ int main(void)
         check_endless();
         check_desk_run();
         check_full();
+        check_last_minute();
     }
     return verdict();
 }

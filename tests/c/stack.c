@@ -24,6 +24,9 @@ enum { STACK = 1 << 20, PAINT = 0x6b };
 /* Where things stand in a table's words. */
 enum { CAPACITY, CLOCK, ROOT, HEIGHT, HEADER = 16, NODE = 96, ENTRIES = 8, ENTRY = 11, FEWEST = 3 };
 
+/* In an entry: the expiry of a cell, and the greatest one beneath an inner entry. */
+enum { EXPIRY = 5, GREATEST_EXPIRY = 9 };
+
 static int32_t table[BRADAWLET_WORDS(CELLS)], other[BRADAWLET_WORDS(CELLS)];
 static int32_t list[CELLS], numbers[BRADAWLET_RECORD], hits, opened, total;
 static uint8_t bytes[BRADAWLET_SHEET(CELLS)], text[BRADAWLET_TRACKS(CELLS)];
@@ -209,14 +212,16 @@ static int32_t *new_node(int32_t count)
 }
 
 /* The subtree of the next free node, so many levels high: its last child is the one on the way, where so many entries
-   stand at each level; all others are as small as can be. All bounds, stamps and expiries are 0, so each entry is
-   what its child comes to. */
+   stand at each level; all others are as small as can be. All bounds and stamps are 0 and all expiries are the same,
+   so each entry is what its child comes to. */
 static void grow(int32_t height, const int32_t *on_the_way)
 {
     int32_t count = on_the_way == NULL ? FEWEST : on_the_way[height];
     int32_t *node = new_node(count);
     for (int32_t k = 0; k < count; k++) {
-        node[ENTRIES + ENTRY * k] = height == 0 ? ++cells : nodes;
+        int32_t *entry = node + ENTRIES + ENTRY * k;
+        entry[0] = height == 0 ? ++cells : nodes;
+        entry[height == 0 ? EXPIRY : GREATEST_EXPIRY] = LAST;
         if (height > 0)
             grow(height - 1, k + 1 == count ? on_the_way : NULL);
     }

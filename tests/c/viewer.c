@@ -57,24 +57,33 @@ static const struct range ranges[ARGUMENTS] = {
 static const struct track tracks[] = {
     {"P1: at a third of a minute", {{1, 0, 0, 3, 3, 0, 40, 0, 1, 1, 1, 1, 1}}, 1},
     {"P2: x and y inside at different times", {{1, 0, 0, 1, 2, 0, 40, 0, 5, 2, 3, 2, 3}}, 0},
-    {"P3: at the expiry", {{7, 100, 200, 5, -3, 10, 40, 40, 40, 250, 250, 110, 110}}, 1},
+    {"P3: at the expiry", {{7, 100, 200, 5, -3, 10, 40, 40, 40, 250, 250, 110, 110}}, 0},
     {"P4: past the expiry", {{7, 100, 200, 5, -3, 10, 40, 41, 41, 255, 255, 107, 107}}, 0},
+    {"P3, a minute sooner", {{7, 100, 200, 5, -3, 10, 40, 39, 39, 245, 245, 113, 113}}, 1},
 
     {"one instant, at the point", {{7, 100, 200, 5, -3, 10, 40, 20, 20, 150, 150, 170, 170}}, 1},
     {"one instant, x one off", {{7, 100, 200, 5, -3, 10, 40, 20, 20, 151, 151, 170, 170}}, 0},
     {"one instant, y one off", {{7, 100, 200, 5, -3, 10, 40, 20, 20, 150, 150, 171, 171}}, 0},
-    {"first instant, minute 0", {{1, 4, -4, 9, 9, 0, 0, 0, 0, 4, 4, -4, -4}}, 1},
-    {"last instant, minute 1440", {{1, 4, -4, 9, 9, 1440, 1440, 1440, 1440, 4, 4, -4, -4}}, 1},
-    {"last instant, one off", {{1, 4, -4, 9, 9, 1440, 1440, 1440, 1440, 5, 5, -4, -4}}, 0},
+    {"first instant, minute 0", {{1, 4, -4, 9, 9, 0, 1, 0, 0, 4, 4, -4, -4}}, 1},
+    {"last minute of reports, 1439", {{1, 4, -4, 9, 9, 1439, 1440, 1439, 1439, 4, 4, -4, -4}}, 1},
+    {"last minute of reports, one off", {{1, 4, -4, 9, 9, 1439, 1440, 1439, 1439, 5, 5, -4, -4}}, 0},
+    {"nothing at minute 1440", {{1, 4, -4, 0, 0, 1439, 1440, 1440, 1440, 4, 4, -4, -4}}, 0},
 
     {"reached at the end", {{1, 0, 0, 5, 0, 0, 40, 0, 10, 50, 60, 0, 0}}, 1},
     {"reached after the end", {{1, 0, 0, 5, 0, 0, 40, 0, 10, 51, 60, 0, 0}}, 0},
     {"left at the start", {{1, 0, 0, 5, 0, 0, 40, 10, 20, 40, 50, 0, 0}}, 1},
     {"left before the start", {{1, 0, 0, 5, 0, 0, 40, 10, 20, 40, 49, 0, 0}}, 0},
-    {"reached at the expiry", {{1, 0, 0, 5, 0, 0, 10, 0, 20, 50, 60, 0, 0}}, 1},
+    {"reached at the expiry", {{1, 0, 0, 5, 0, 0, 10, 0, 20, 50, 60, 0, 0}}, 0},
+    {"reached at the expiry and the end", {{1, 0, 0, 5, 0, 0, 10, 0, 10, 50, 60, 0, 0}}, 0},
+    {"reached at 80/2, the expiry", {{1, 0, 0, 2, 0, 0, 40, 0, 60, 80, 90, 0, 0}}, 0},
+    {"reached at 79/2, before the expiry", {{1, 0, 0, 2, 0, 0, 40, 0, 60, 79, 90, 0, 0}}, 1},
+    {"reached 1/512 before the expiry", {{1, 0, 0, 512, 0, 0, 40, 0, 40, 20479, 20480, 0, 0}}, 1},
+    {"reached 1/5 before the expiry", {{1, 0, 0, 5, 0, 0, 10, 0, 20, 49, 60, 0, 0}}, 1},
     {"reached after the expiry", {{1, 0, 0, 5, 0, 0, 10, 0, 20, 51, 60, 0, 0}}, 0},
+    {"inside until the expiry", {{1, 0, 0, 0, 0, 0, 10, 0, 10, -9, 9, -9, 9}}, 1},
     {"expired before the start", {{1, 0, 0, 0, 0, 0, 10, 11, 20, -9, 9, -9, 9}}, 0},
-    {"expires at the start", {{1, 0, 0, 0, 0, 0, 11, 11, 20, -9, 9, -9, 9}}, 1},
+    {"expires at the start", {{1, 0, 0, 0, 0, 0, 11, 11, 20, -9, 9, -9, 9}}, 0},
+    {"expires after the start", {{1, 0, 0, 0, 0, 0, 12, 11, 20, -9, 9, -9, 9}}, 1},
 
     {"x enters as y leaves, at 7/4", {{1, 0, 0, 4, 4, 0, 40, 0, 5, 7, 9, 5, 7}}, 1},
     {"x enters after y leaves", {{1, 0, 0, 4, 4, 0, 40, 0, 5, 7, 9, 5, 6}}, 0},
@@ -93,21 +102,32 @@ static const struct track tracks[] = {
      {{1, -99999, -100000, 512, 512, 0, 1440, 0, 1440, 100000, 100000, 100000, 100000}}, 0},
     {"across the plane, expired at 390",
      {{1, -100000, -100000, 512, 512, 0, 390, 0, 1440, 100000, 100000, 100000, 100000}}, 0},
-    {"kept position farthest above 0",
-     {{1, 100000, 100000, -512, -512, 1440, 1440, 1440, 1440, 100000, 100000, 100000, 100000}}, 1},
-    {"kept position farthest above 0, one off",
-     {{1, 100000, 100000, -512, -512, 1440, 1440, 1440, 1440, 99999, 99999, 100000, 100000}}, 0},
-    {"kept position farthest below 0",
-     {{1, -100000, -100000, 512, 512, 1440, 1440, 1440, 1440, -100000, -100000, -100000, -100000}}, 1},
+    {"across the plane, expired at 391",
+     {{1, -100000, -100000, 512, 512, 0, 391, 0, 1440, 100000, 100000, 100000, 100000}}, 1},
+    {"kept as far above 0 as a report can be",
+     {{1, 100000, 100000, -512, -512, 1439, 1440, 1439, 1439, 100000, 100000, 100000, 100000}}, 1},
+    {"kept as far above 0 as a report can be, one off",
+     {{1, 100000, 100000, -512, -512, 1439, 1440, 1439, 1439, 99999, 99999, 100000, 100000}}, 0},
+    {"kept as far below 0 as a report can be",
+     {{1, -100000, -100000, 512, 512, 1439, 1440, 1439, 1439, -100000, -100000, -100000, -100000}}, 1},
     {"gone far outside the plane",
-     {{1, 100000, 100000, 512, 512, 0, 1440, 1440, 1440, -100000, 100000, -100000, 100000}}, 0},
+     {{1, 100000, 100000, 512, 512, 0, 1440, 1439, 1440, -100000, 100000, -100000, 100000}}, 0},
     {"greatest identifier, whole plane, whole day",
      {{INT32_MAX, 0, 0, 0, 0, 0, 1440, 0, 1440, -100000, 100000, -100000, 100000}}, 1},
 
     {"5: starts a minute too early", {{1, 0, 0, 0, 0, 10, 40, 9, 30, -9, 9, -9, 9}}, 5},
     {"starts at the report's minute", {{1, 0, 0, 0, 0, 10, 40, 10, 30, -9, 9, -9, 9}}, 1},
-    {"6: expires a minute too early", {{1, 0, 0, 0, 0, 10, 9, 10, 30, -9, 9, -9, 9}}, 6},
-    {"expires at the report's minute", {{1, 0, 0, 0, 0, 10, 10, 10, 30, -9, 9, -9, 9}}, 1},
+    {"6: expires before the report", {{1, 0, 0, 0, 0, 10, 9, 10, 30, -9, 9, -9, 9}}, 6},
+    {"6: expires at the report's minute", {{1, 0, 0, 0, 0, 10, 10, 20, 30, -9, 9, -9, 9}}, 6},
+    {"6: expires at the report's minute, and the start", {{1, 0, 0, 0, 0, 10, 10, 10, 30, -9, 9, -9, 9}}, 6},
+    {"6: expires at the report's minute, 0", {{1, 0, 0, 0, 0, 0, 0, 0, 0, 0, 0, 0, 0}}, 6},
+    {"6: reported at minute 1440", {{1, 4, -4, 9, 9, 1440, 1440, 1440, 1440, 4, 4, -4, -4}}, 6},
+    {"6 before 7: all minutes alike, xlow above xhigh", {{1, 0, 0, 0, 0, 10, 10, 10, 10, 1, 0, 0, 0}}, 6},
+    {"6 before 7: expires as it is reported, transposed", {{1, 0, 0, 0, 0, 10, 10, 30, 20, -9, 9, -9, 9}}, 6},
+    {"5 before 6: expires as it is reported", {{1, 0, 0, 0, 0, 10, 10, 9, 30, -9, 9, -9, 9}}, 5},
+    {"4 before 6: expires as it is reported", {{0, 0, 0, 0, 0, 10, 10, 10, 30, -9, 9, -9, 9}}, 4},
+    {"expires a minute after the report", {{1, 0, 0, 0, 0, 10, 11, 10, 30, -9, 9, -9, 9}}, 1},
+    {"expires a minute after the report, asked then", {{1, 0, 0, 0, 0, 10, 11, 11, 30, -9, 9, -9, 9}}, 0},
     {"7: start and end transposed", {{1, 0, 0, 0, 0, 0, 40, 40, 12, -9, 9, -9, 9}}, 7},
     {"7: ends a minute too early", {{1, 0, 0, 0, 0, 0, 40, 12, 11, -9, 9, -9, 9}}, 7},
     {"7: xlow one above xhigh", {{1, 0, 0, 0, 0, 0, 40, 12, 12, 1, 0, 0, 0}}, 7},
@@ -118,7 +138,7 @@ enum header_word { COUNT, OFFSET, CLOCK, TOTAL, HEADER_WORDS };
 
 enum record_word { R_ID, R_X, R_VX, R_Y, R_VY, R_EXPIRY, RECORD_WORDS };
 
-enum { MOST_CELLS = 256, WORD_BYTES = 4, SHEET_CLOCK = 100 };
+enum { MOST_CELLS = 256, WORD_BYTES = 4, SHEET_CLOCK = 100, FIRST_EXPIRY = SHEET_CLOCK + 1 };
 
 /* Room for one cell more than a sheet may have. */
 struct sheet {
@@ -147,8 +167,10 @@ static const struct change changes[] = {
     {"offset of the second record", -1, OFFSET, 40, 11},
     {"clock -1", -1, CLOCK, -1, 11},
     {"clock 0", -1, CLOCK, 0, 1},
-    {"clock at the first expiry", -1, CLOCK, SHEET_CLOCK, 1},
-    {"clock past the first expiry", -1, CLOCK, SHEET_CLOCK + 1, 12},
+    {"clock a minute before the first expiry", -1, CLOCK, FIRST_EXPIRY - 1, 1},
+    {"clock at the first expiry", -1, CLOCK, FIRST_EXPIRY, 12},
+    {"clock past the first expiry", -1, CLOCK, FIRST_EXPIRY + 1, 12},
+    {"clock 1439", -1, CLOCK, 1439, 12},
     {"clock 1440", -1, CLOCK, 1440, 12},
     {"clock 1441", -1, CLOCK, 1441, 11},
     {"clock at INT32_MIN", -1, CLOCK, INT32_MIN, 11},
@@ -186,8 +208,11 @@ static const struct change changes[] = {
     {"vy one below its least", 0, R_VY, -513, 12},
     {"vy at its greatest", 1, R_VY, 512, 1},
     {"vy one above its greatest", 1, R_VY, 513, 12},
-    {"expiry at the clock", 2, R_EXPIRY, SHEET_CLOCK, 1},
+    {"first expiry at the clock", 0, R_EXPIRY, SHEET_CLOCK, 12},
+    {"last expiry at the clock", 2, R_EXPIRY, SHEET_CLOCK, 12},
+    {"last expiry a minute after the clock", 2, R_EXPIRY, SHEET_CLOCK + 1, 1},
     {"expiry before the clock", 2, R_EXPIRY, SHEET_CLOCK - 1, 12},
+    {"expiry 0", 1, R_EXPIRY, 0, 12},
     {"expiry 1440", 1, R_EXPIRY, 1440, 1},
     {"expiry 1441", 1, R_EXPIRY, 1441, 12},
     {"expiry at INT32_MIN", 0, R_EXPIRY, INT32_MIN, 12},
@@ -220,8 +245,9 @@ static struct call changed(struct call call, enum argument argument, int32_t val
     return call;
 }
 
-/* Changes what no other reason looks at, so that reasons can be given together. */
-static void give_reason(struct call *call, int32_t refusal)
+/* Changes what no other reason looks at, so that reasons can be given together. An expiry that gives one is so many
+   minutes before the report's: 0 is enough. */
+static void give_reason(struct call *call, int32_t refusal, int32_t sooner)
 {
     int32_t *v = call->value;
     switch (refusal) {
@@ -232,7 +258,7 @@ static void give_reason(struct call *call, int32_t refusal)
         v[START] = v[MINUTE] - 1;
         break;
     case BRADAWLET_EXPIRES_FIRST:
-        v[EXPIRY] = v[MINUTE] - 1;
+        v[EXPIRY] = v[MINUTE] - sooner;
         break;
     case BRADAWLET_BACKWARD:
         v[XLOW] = v[XHIGH] + 1;
@@ -245,7 +271,7 @@ static void check_outside(enum argument argument, const char *detail, int32_t va
     struct call alone = changed(plain, argument, value);
     struct call among_others = plain;
     for (int32_t refusal = 5; refusal <= 7; refusal++)
-        give_reason(&among_others, refusal);
+        give_reason(&among_others, refusal, 0);
     among_others.value[argument] = value;
     check_call(ranges[argument].name, detail, &alone, BRADAWLET_OUT_OF_RANGE);
     check_call(ranges[argument].name, detail, &among_others, BRADAWLET_OUT_OF_RANGE);
@@ -275,7 +301,7 @@ static void check_all_arguments_at(const char *detail, int32_t value)
 }
 
 /* Every set of the four reasons: the answer is the least of the set, and a yes for none. */
-static void check_order(void)
+static void check_order(int32_t sooner)
 {
     for (unsigned set = 0; set < 16; set++) {
         struct call call = plain;
@@ -284,7 +310,7 @@ static void check_order(void)
         for (int32_t refusal = 7; refusal >= 4; refusal--) {
             if ((set >> (refusal - 4) & 1) == 0)
                 continue;
-            give_reason(&call, refusal);
+            give_reason(&call, refusal, sooner);
             detail[refusal - 3] = (char)('0' + refusal);
             expected = refusal;
         }
@@ -297,7 +323,7 @@ static size_t total_of(int32_t cells)
     return 16 + 24 * (size_t)cells;
 }
 
-/* Cells 10, 20, .. whose numbers have both signs; none expires before the clock. */
+/* Cells 10, 20, .. whose numbers have both signs; each expires after the clock, the first in the next minute. */
 static void make_sheet(struct sheet *sheet, int32_t cells)
 {
     *sheet = (struct sheet){{cells, 16, SHEET_CLOCK, (int32_t)total_of(cells)}};
@@ -309,7 +335,7 @@ static void make_sheet(struct sheet *sheet, int32_t cells)
         record[R_VX] = -sign * k;
         record[R_Y] = -sign * 65536;
         record[R_VY] = sign * 512;
-        record[R_EXPIRY] = SHEET_CLOCK + k;
+        record[R_EXPIRY] = FIRST_EXPIRY + k;
     }
 }
 
@@ -368,6 +394,22 @@ static void check_change(const struct change *change)
     check_sheet(change->name, " and a wrong header", &sheet, total_of(3), BRADAWLET_BAD_HEADER);
 }
 
+/* At minute 1440 nothing lives, so no cell can stand on a sheet with that clock; a minute before it one can. */
+static void check_last_minute(void)
+{
+    for (int32_t cells = 0; cells <= 3; cells++) {
+        for (int32_t clock = 1438; clock <= 1440; clock++) {
+            struct sheet sheet;
+            make_sheet(&sheet, cells);
+            sheet.word[CLOCK] = clock;
+            for (int32_t k = 0; k < cells; k++)
+                sheet.word[HEADER_WORDS + RECORD_WORDS * k + R_EXPIRY] = 1440;
+            check_sheet("a sheet", " at the end of the day", &sheet, total_of(cells),
+                        clock == 1440 && cells > 0 ? BRADAWLET_BAD_RECORD : BRADAWLET_YES);
+        }
+    }
+}
+
 static void check_count(int32_t cells, int32_t expected)
 {
     struct sheet sheet;
@@ -404,7 +446,7 @@ static int32_t plain_answer(const uint8_t *bytes, size_t length)
             || !between(-512, word_at(bytes, at + 8), 512)
             || !between(-837280, word_at(bytes, at + 12), 837280)
             || !between(-512, word_at(bytes, at + 16), 512)
-            || !between(clock, word_at(bytes, at + 20), 1440))
+            || !between(clock + 1, word_at(bytes, at + 20), 1440))
             return BRADAWLET_BAD_RECORD;
         least = word_at(bytes, at) + 1;
     }
@@ -444,6 +486,7 @@ static void check_sheets(void)
     for (int32_t cells = 0; cells <= MOST_CELLS; cells++)
         check_count(cells, BRADAWLET_YES);
     check_count(MOST_CELLS + 1, BRADAWLET_BAD_HEADER);
+    check_last_minute();
     for (size_t i = 0; i < LENGTH(changes); i++)
         check_change(&changes[i]);
 }
@@ -458,7 +501,8 @@ int main(void)
         check_range((enum argument)i);
     check_all_arguments_at(" at INT32_MIN", INT32_MIN);
     check_all_arguments_at(" at INT32_MAX", INT32_MAX);
-    check_order();
+    check_order(0);
+    check_order(1);
     check_bytes("no bytes", " at null", NULL, 0, BRADAWLET_BAD_HEADER);
     for (lent_side = 0; lent_side < LENT_SIDES; lent_side++)
         check_sheets();

@@ -6,11 +6,12 @@ use crate::random::Random;
 use crate::refusal::answer;
 use crate::tally::Tally;
 use std::collections::BTreeMap;
+use std::fmt::Debug;
 
 /// How many questions each family asks.
 pub const QUESTIONS: u32 = 100_000;
 
-/// How many of them must have each answer that the family is meant to give.
+/// How many of them must have each answer and each name that the family is meant to bring up.
 const FEWEST: u32 = 50;
 
 /// How many wrong answers of a family are printed in full.
@@ -34,12 +35,16 @@ impl Comparison {
 
     fn family_agrees(&self, family: &Family, random: &mut Random) -> bool {
         let mut counts = BTreeMap::new();
+        let mut names = BTreeMap::new();
         let mut wrong = 0;
         for _ in 0..QUESTIONS {
             let case = (family.make)(random);
             let computed = answer(self.kind, &case.question);
             let answered = (self.ask)(&case.question);
             *counts.entry(computed).or_insert(0) += 1;
+            if let Some(name) = case.named {
+                *names.entry(name).or_insert(0) += 1;
+            }
             if answered != computed || case.known.is_some_and(|known| known != computed) {
                 wrong += 1;
                 if wrong <= SHOWN {
@@ -48,7 +53,12 @@ impl Comparison {
             }
         }
         println!("{:?} {}: {}; {wrong} wrong", self.kind, family.name, in_words(&counts));
-        wrong == 0 && all_came_up(family, &counts)
+        for (name, count) in &names {
+            println!("  {name}: {count}");
+        }
+        let answers = all_came_up(family, "the answer", family.meant, &counts);
+        let all_named = all_came_up(family, "the name", family.names, &names);
+        wrong == 0 && answers && all_named
     }
 
     fn show(&self, family: &Family, case: &Case, answered: i32, computed: i32) {
@@ -61,12 +71,12 @@ impl Comparison {
     }
 }
 
-/// A family that hardly gives an answer that it is meant to give tests less than it claims.
-fn all_came_up(family: &Family, counts: &BTreeMap<i32, u32>) -> bool {
-    let rare = |answer: &&i32| counts.get(answer).is_none_or(|&count| count < FEWEST);
-    let missing: Vec<_> = family.meant.iter().filter(rare).collect();
+/// A family that hardly brings up what it is meant to bring up tests less than it claims.
+fn all_came_up<T: Ord + Debug>(family: &Family, what: &str, meant: &[T], counts: &BTreeMap<T, u32>) -> bool {
+    let rare = |one: &&T| counts.get(*one).is_none_or(|&count| count < FEWEST);
+    let missing: Vec<_> = meant.iter().filter(rare).collect();
     if !missing.is_empty() {
-        println!("FAILED {}: under {FEWEST} questions with the answer {missing:?}", family.name);
+        println!("FAILED {}: under {FEWEST} questions with {what} {missing:?}", family.name);
     }
     missing.is_empty()
 }

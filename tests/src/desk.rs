@@ -2,6 +2,7 @@
 
 pub mod asking;
 pub mod damage;
+pub mod ends;
 pub mod families;
 pub mod limits;
 pub mod line;

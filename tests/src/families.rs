@@ -10,16 +10,30 @@ mod touching;
 use crate::question::{Kind, Question};
 use crate::random::Random;
 
-/// A question, with its answer where the way it was built makes that known.
+/// A question, with its answer where the way it was built makes that known, and with a name for it
+/// where it is one of those that the family is meant to bring up.
 pub struct Case {
     pub question: Question,
     pub known: Option<i32>,
+    pub named: Option<&'static str>,
 }
 
+/// What a family is meant to bring up: answers, and questions by their names.
 pub struct Family {
     pub name: &'static str,
     pub make: fn(&mut Random) -> Case,
     pub meant: &'static [i32],
+    pub names: &'static [&'static str],
+}
+
+impl Family {
+    const fn of(name: &'static str, make: fn(&mut Random) -> Case, meant: &'static [i32]) -> Family {
+        Family { name, make, meant, names: &[] }
+    }
+
+    const fn with_names(self, names: &'static [&'static str]) -> Family {
+        Family { names, ..self }
+    }
 }
 
 const ACCEPTED: &[i32] = &[0, 1];
@@ -27,38 +41,30 @@ const UNSORTED: &[i32] = &[0, 1, 5, 6, 7];
 const EVERY: &[i32] = &[0, 1, 4, 5, 6, 7];
 
 pub const WINDOWS: &[Family] = &[
-    Family { name: "anywhere", make: |r| plain::anywhere(r, Kind::Window), meant: UNSORTED },
-    Family { name: "anywhere, in order", make: |r| plain::ordered(r, Kind::Window), meant: ACCEPTED },
-    Family { name: "small", make: |r| plain::small(r, Kind::Window), meant: UNSORTED },
-    Family { name: "small, in order", make: |r| plain::small_ordered(r, Kind::Window), meant: ACCEPTED },
-    Family { name: "extremes", make: |r| plain::extremes(r, Kind::Window), meant: UNSORTED },
-    Family { name: "one instant", make: touching::one_instant, meant: ACCEPTED },
-    Family { name: "corner grazed", make: grazing::window, meant: ACCEPTED },
-    Family { name: "cut short at the touch", make: cut_short::window, meant: ACCEPTED },
-    Family {
-        name: "at and past a range's ends",
-        make: |r| refused::range_ends(r, Kind::Window),
-        meant: EVERY,
-    },
-    Family { name: "several refusals", make: |r| refused::several(r, Kind::Window), meant: EVERY },
+    Family::of("anywhere", |r| plain::anywhere(r, Kind::Window), UNSORTED),
+    Family::of("anywhere, in order", |r| plain::ordered(r, Kind::Window), ACCEPTED),
+    Family::of("small", |r| plain::small(r, Kind::Window), UNSORTED),
+    Family::of("small, in order", |r| plain::small_ordered(r, Kind::Window), ACCEPTED),
+    Family::of("extremes", |r| plain::extremes(r, Kind::Window), UNSORTED),
+    Family::of("one instant", touching::one_instant, ACCEPTED).with_names(touching::NAMES),
+    Family::of("corner grazed", grazing::window, ACCEPTED).with_names(grazing::NAMES),
+    Family::of("cut short at the touch", cut_short::window, ACCEPTED).with_names(cut_short::OF_WINDOWS),
+    Family::of("at and past a range's ends", |r| refused::range_ends(r, Kind::Window), EVERY),
+    Family::of("several refusals", |r| refused::several(r, Kind::Window), EVERY).with_names(refused::NAMES),
 ];
 
 pub const MOVING: &[Family] = &[
-    Family { name: "anywhere", make: |r| plain::anywhere(r, Kind::Moving), meant: UNSORTED },
-    Family { name: "anywhere, in order", make: |r| plain::ordered(r, Kind::Moving), meant: ACCEPTED },
-    Family { name: "small", make: |r| plain::small(r, Kind::Moving), meant: UNSORTED },
-    Family { name: "small, in order", make: |r| plain::small_ordered(r, Kind::Moving), meant: ACCEPTED },
-    Family { name: "extremes", make: |r| plain::extremes(r, Kind::Moving), meant: UNSORTED },
-    Family { name: "corner grazed", make: grazing::moving, meant: ACCEPTED },
-    Family { name: "cut short at the touch", make: cut_short::moving, meant: ACCEPTED },
-    Family { name: "edges at the cell's velocity", make: parallel::exactly, meant: ACCEPTED },
-    Family { name: "edges nearly at the cell's velocity", make: parallel::nearly, meant: ACCEPTED },
-    Family {
-        name: "at and past a range's ends",
-        make: |r| refused::range_ends(r, Kind::Moving),
-        meant: EVERY,
-    },
-    Family { name: "several refusals", make: |r| refused::several(r, Kind::Moving), meant: EVERY },
+    Family::of("anywhere", |r| plain::anywhere(r, Kind::Moving), UNSORTED),
+    Family::of("anywhere, in order", |r| plain::ordered(r, Kind::Moving), ACCEPTED),
+    Family::of("small", |r| plain::small(r, Kind::Moving), UNSORTED),
+    Family::of("small, in order", |r| plain::small_ordered(r, Kind::Moving), ACCEPTED),
+    Family::of("extremes", |r| plain::extremes(r, Kind::Moving), UNSORTED),
+    Family::of("corner grazed", grazing::moving, ACCEPTED).with_names(grazing::NAMES),
+    Family::of("cut short at the touch", cut_short::moving, ACCEPTED).with_names(cut_short::OF_MOVING),
+    Family::of("edges at the cell's velocity", parallel::exactly, ACCEPTED).with_names(parallel::NAMES),
+    Family::of("edges nearly at the cell's velocity", parallel::nearly, ACCEPTED),
+    Family::of("at and past a range's ends", |r| refused::range_ends(r, Kind::Moving), EVERY),
+    Family::of("several refusals", |r| refused::several(r, Kind::Moving), EVERY).with_names(refused::NAMES),
 ];
 
 /// A question of small numbers that is not refused.

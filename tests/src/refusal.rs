@@ -45,7 +45,7 @@ pub fn answer(kind: Kind, question: &Question) -> i32 {
         OUT_OF_RANGE
     } else if question.query.start < question.report.minute {
         BEFORE_CLOCK
-    } else if question.report.expiry < question.report.minute {
+    } else if question.report.expiry <= question.report.minute {
         EXPIRES_FIRST
     } else if backward(kind, &question.query) {
         BACKWARD

@@ -11,12 +11,19 @@ use Rattle.table.specs.Header.{clock}
 use Rattle.leafing.specs.Leafed.{LiveCells}
 use Rattle.sheet_write.specs.Written.{tableReasons, WritesTable}
 use Rattle.sheet_write.specs.declared.Written.{Written}
-use Rattle.wkt.specs.TrackLine.{LineOf}
+use Rattle.wkt.specs.Metres.{standsAt}
+use Rattle.wkt.specs.TrackLine.{TrackForm, LineOf}
 
 -- the lines of these cells, one after the other
 pub data TextOf (clock : ℤ) : List Cell → List ℕ → Type 0 where
   no-line : TextOf clock [] []
   line-then : {c : Cell} {cells : List Cell} {line text : List ℕ} → LineOf clock c line → TextOf clock cells text → TextOf clock (c ∷ cells) (line ++ text)
+
+-- the same where each of them has a LINESTRING. `never-a-point` (Laws/NeverAPoint): the text of live cells is one
+pub data LineStringsOf (clock : ℤ) : List Cell → List ℕ → Type 0 where
+  no-line-string : LineStringsOf clock [] []
+  line-string-then : {c : Cell} {cells : List Cell} {line text : List ℕ} → TrackForm (standsAt c clock) (standsAt c (c .expiry .at)) line
+      → LineStringsOf clock cells text → LineStringsOf clock (c ∷ cells) (line ++ text)
 
 -- the table's whole text is longer than n bytes
 pub record LongerText (n : ℕ) (w : List ℤ) : Type 0 where

@@ -1,3 +1,4 @@
 pub mod TrackText
+pub mod NeverAPoint
 pub mod TextPasses
 pub mod Charted

@@ -35,7 +35,7 @@ pub struct Sought {
 fn lower(s: Sought, best: Next, c: Cell) -> Next
     ensures { λ r. ⌜ Extends s (c ∷ []) best r ⌝ }
 {
-    let in_life = s.clock <= c.expiry.at;
+    let in_life = s.clock < c.expiry.at;
     let above = s.last < c.id;
     if !(in_life & above) {
         return best;

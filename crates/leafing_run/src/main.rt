@@ -1,4 +1,4 @@
-// A run of the leafing. Cells are reported out of order, one of them once more; one is dropped, and one is past its expiry. The cells that
+// A run of the leafing. Cells are reported out of order, one of them once more; one is dropped, and two have expired. The cells that
 // are left are listed by leafing through the table, and printed.
 use leafing::through::Listed;
 use leafing::through::RECORD_NUMBERS;
@@ -11,7 +11,7 @@ use tree::change::report;
 use words::place;
 
 // Each row is a report: identifier, x, y, velocities, minute, expiry. Ten cells are more than a node holds. At minute 12 cell 6 is
-// replaced and cell 2 is past its expiry.
+// replaced; cell 2 is past its expiry, and cell 5 is at it, and so lives no more.
 const REPORTS: [[i32; 7]; 11] = [
     [7, 100, 200, 5, -3, 10, 40],
     [3, -40, 0, 0, 0, 10, 30],
@@ -75,11 +75,11 @@ fn print_records(list: &[i32]) {
     }
 }
 
-// Eight cells are left: a list of 48 places holds them, one of 47 is refused, and words that are no table are refused.
+// Seven cells are left: a list of 42 places holds them, one of 41 is refused, and words that are no table are refused.
 fn main() {
     let mut table = [0i32; 880];
-    let mut list = [0i32; 48];
-    let mut short = [0i32; 47];
+    let mut list = [0i32; 42];
+    let mut short = [0i32; 41];
     fresh(&mut table, 16);
     report_all(&mut table);
     drop(&mut table, 9, 12);

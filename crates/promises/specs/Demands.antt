@@ -11,9 +11,10 @@ use lib.Signed.{_<ℤ_}
 use Rattle.whole.specs.Lists.{_∈_}
 use Rattle.words.specs.Words.{natOf}
 use Rattle.track.specs.Numbers.{IsMinute}
-use Rattle.track.specs.Life.{identifier, noCell, CellInRange}
+use Rattle.track.specs.Life.{identifier, noCell, LivesAt, CellInRange}
 use Rattle.track.specs.Refusals.{First, Gives}
 use Rattle.track.specs.Laws.Refusals.{first-fixed}
+use Rattle.track.specs.Laws.Life.{lives-at-start}
 use Rattle.track.specs.declared.cell.Cell.{Cell}
 use Rattle.track.specs.declared.queries.Query.{Query}
 use Rattle.track.specs.declared.report.Report as track
@@ -34,9 +35,11 @@ use Rattle.wkt.specs.TrackRead.{ReadsAs, trackReasons, trackNumber}
 use Rattle.wkt.specs.declared.point.Point.{Point}
 use Rattle.wkt.specs.Laws.TrackLine.{line-length}
 use Rattle.wkt.specs.Laws.TrackRead.{gives-in-range, track-back, line-back, point-not-read}
-use Rattle.charting.specs.Charted.{TextOf}
+use Rattle.charting.specs.Charted.{TextOf, LineStringsOf}
 use Rattle.charting.specs.Laws.Charted.{charted-within}
+use Rattle.charting.specs.Laws.NeverAPoint.{never-a-point, point-nowhere}
 use Rattle.tree.specs.Steps.{outcomeNumber}
+use Rattle.tree.specs.Laws.Steps.{step-leaves-what-lives}
 use Rattle.alike.specs.Alike.{Alike}
 use Rattle.calls.specs.TableCalls.{FreshGives, QueryGives, WindowGives, MovingGives}
 use Rattle.calls.specs.ChangeCalls.{ReportGives, DropGives}
@@ -139,14 +142,14 @@ pub tracks-are-of-the-live-cells : {w u : List ℤ} {buffer bytes : List ℕ} {t
     → (cells : List Cell) × (text : List ℕ) × LiveCells w cells × TextOf (clock w) cells text × (total ≡ length text) × (bytes ≡ text ++ drop total buffer)
 tracks-are-of-the-live-cells wrote = let c = charted-is wrote in (c .cells, c .text, c .live, c .is-text, c .total-is, c .written)
 
--- The line of a live cell of a sound table that is not in its last minute, read with its identifier, gives the cell.
-pub track-read-back-gives-the-cell : {w : List ℤ} {c : Cell} {line : List ℕ} {r : ℤ} {numbers : List ℤ} → Sound w → Live w c → clock w <ℤ c .expiry .at
+-- The line of a live cell of a sound table, read with its identifier, gives the cell.
+pub track-read-back-gives-the-cell : {w : List ℤ} {c : Cell} {line : List ℕ} {r : ℤ} {numbers : List ℤ} → Sound w → Live w c
     → LineOf (clock w) c line → ReadTrackGives (c .id) line r numbers → (r ≡ pos 0) × (numbers ≡ cellNumbers c)
-track-read-back-gives-the-cell sound live before line reads = track-given reads (track-back (live-in-range sound live) (sound .clock-in) before line)
+track-read-back-gives-the-cell sound live line reads = track-given reads (track-back (live-in-range sound live) (sound .clock-in) (live .in-life) line)
 
--- An accepted line is that of the cell that it gives, at a minute before its expiry, byte for byte; and the cell has the identifier that was given.
+-- An accepted line is that of the cell that it gives, at a minute at which it lives, byte for byte; and the cell has the identifier that was given.
 pub accepted-track-is-the-cells-line : {id r : ℤ} {line : List ℕ} {numbers : List ℤ} → ReadTrackGives id line r numbers → r ≡ pos 0
-    → (c : Cell) × (minute : ℤ) × (numbers ≡ cellNumbers c) × (c .id ≡ id) × CellInRange c × IsMinute minute × (minute <ℤ c .expiry .at) × LineOf minute c line
+    → (c : Cell) × (minute : ℤ) × (numbers ≡ cellNumbers c) × (c .id ≡ id) × CellInRange c × IsMinute minute × LivesAt minute c × LineOf minute c line
 accepted-track-is-the-cells-line reads accepted =
     let a = track-accepted reads accepted in
     let read = a .1 in
@@ -176,6 +179,30 @@ track-is-at-most-66-bytes sound live line = line-length (live-in-range sound liv
 
 pub tracks-are-at-most-66-bytes-each : {w u : List ℤ} {buffer bytes : List ℕ} {n total : ℕ} → Happens w (Chart buffer) (Bytes n total bytes) u → total ≤ 66 * natOf (capacityWord w)
 tracks-are-at-most-66-bytes-each {w} h = subst (λ (t : ℕ). t ≤ 66 * natOf (capacityWord w)) (sym (ap totalTold (h .reply))) (charted-within (h .written) (h .writes))
+
+-- ==== The minute of the expiry. A cell does not live through it, so that its successor, which starts in that very minute, is never shown beside it.
+-- A held cell that is listed lives at the query's start: one that expires then is not listed.
+pub listed-cell-lives-at-the-start : {w : List ℤ} {q : Query} {ids : List ℤ} → Sound w → Hits w q ids → (c : Cell) → c ∈ held w → c .id ∈ ids → LivesAt (q .start .at) c
+listed-cell-lives-at-the-start {q} sound hits c is-held listed =
+    let h = hits .only (c .id) listed in
+    subst (LivesAt (q .start .at)) (identifier-is-of-one-cell sound (h .is-held) is-held (h .has-id)) (lives-at-start (h .cell) q (h .meets))
+
+-- After an accepted report or drop each cell that is held lives at its minute: one that expires then is gone.
+pub report-leaves-what-lives : {w v : List ℤ} {r : track.Report} → Happens w (Report r) (Number 0) v → (c : Cell) → c ∈ held v → LivesAt (r .minute) c
+report-leaves-what-lives happens c is-held = step-leaves-what-lives (happens .steps .accepted (sym (ap told (happens .reply)))) c is-held
+
+pub drop-leaves-what-lives : {w v : List ℤ} {id minute : ℤ} → Happens w (Drop id minute) (Number 0) v → (c : Cell) → c ∈ held v → LivesAt minute c
+drop-leaves-what-lives happens c is-held = step-leaves-what-lives (happens .steps .accepted (sym (ap told (happens .reply)))) c is-held
+
+-- No track is a point: every line that is written is a LINESTRING, from where its cell is at the clock to where its track is at its expiry, and nowhere in the
+-- text is there a POINT line.
+pub every-track-is-a-linestring : {w u : List ℤ} {buffer bytes : List ℕ} {total : ℕ} → Happens w (Chart buffer) (Bytes 0 total bytes) u
+    → (cells : List Cell) × (text : List ℕ) × LiveCells w cells × LineStringsOf (clock w) cells text × (total ≡ length text) × (bytes ≡ text ++ drop total buffer)
+every-track-is-a-linestring wrote = let c = charted-is wrote in (c .cells, c .text, c .live, never-a-point c, c .total-is, c .written)
+
+pub no-point-is-written : {w u : List ℤ} {buffer bytes : List ℕ} {total : ℕ} → Happens w (Chart buffer) (Bytes 0 total bytes) u
+    → (before after : List ℕ) {line : List ℕ} {p : Point} → take total bytes ≡ before ++ (line ++ after) → PointForm p line → ⊥
+no-point-is-written wrote = point-nowhere (charted-is wrote)
 
 -- ==== The exported calls do what `Happens` says, so all of this holds of them. From what each ensures of its result r, of what it writes and of the table there
 -- is a reply in these numbers; a table that is lent for reading only is left as it was.

@@ -19,7 +19,7 @@ pub record Model : Type 0 where
   pub clock : ℤ
   pub left : List Cell
 
--- a cell is live when it was left and its expiry is not before the clock
+-- a cell is live when it was left and its expiry is after the clock
 pub record LiveIn (m : Model) (c : Cell) : Type 0 where
   pub is-left : c ∈ m .left
   pub in-life : LivesAt (m .clock) c

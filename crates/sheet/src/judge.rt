@@ -20,7 +20,7 @@ pub enum Judged {
 fn follows(c: Cell, clock: i32, last: i32) -> bool
     ensures { λ r. ⌜ Tells r (Follows clock last c) ⌝ }
 {
-    let in_life = clock <= c.expiry.at;
+    let in_life = clock < c.expiry.at;
     let rises = last < c.id;
     cell_in_range(c) & in_life & rises
 }

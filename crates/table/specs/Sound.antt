@@ -23,7 +23,7 @@ reached w = nodesOf (entriesAt w) (height w) (root w)
 abbrev pub held : List ℤ → List Cell
 held w = map cellOf (leavesOf (entriesAt w) (height w) (root w))
 
--- a cell is live when its expiry is not before the clock
+-- a cell is live while its expiry is after the clock
 pub record Live (w : List ℤ) (c : Cell) : Type 0 where
   pub is-held : c ∈ held w
   pub in-life : LivesAt (clock w) c

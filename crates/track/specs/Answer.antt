@@ -3,7 +3,7 @@ use mathlib.Core.List.{List, [], _∷_, _++_}
 use mathlib.Core.Logic.{_⊎_}
 use mathlib.Core.Path.{_≡_}
 use Prim.Native.Nat.{ℕ}
-use lib.Signed.{_<ℤ_}
+use lib.Signed.{_≤ℤ_, _<ℤ_}
 use Rattle.track.specs.Refusals.{Reason, _when_, firstGiven}
 use Rattle.track.specs.Report.{ReportInRange, keptCell, reportNumber, reportCell}
 use Rattle.track.specs.Query.{QueryInRange, Crossed, EndsBeforeStart, EndsByStart, still, askedNumber, askedQuery}
@@ -18,7 +18,7 @@ abbrev pub meetingReasons : Report → Type 0 → Query → List Reason
 meetingReasons r Backward q =
     4 when (ReportInRange r × QueryInRange q → ⊥) ∷
     5 when (q .start .at <ℤ r .minute) ∷
-    6 when (r .expiry <ℤ r .minute) ∷
+    6 when (r .expiry ≤ℤ r .minute) ∷
     7 when (Backward ⊎ (Crossed (q .x) ⊎ Crossed (q .y))) ∷
     []
 

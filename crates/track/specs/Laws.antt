@@ -6,6 +6,7 @@ pub mod Numbers
 pub mod Query
 pub mod Refusals
 pub mod Small
+pub mod Life
 pub mod Cut
 pub mod Decides
 pub mod HullRange

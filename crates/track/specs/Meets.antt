@@ -4,7 +4,7 @@ use mathlib.Core.Path.{_≡_}
 use mathlib.Core.Bool.{cond}
 use mathlib.Core.List.{List, [], _∷_}
 use lib.IntN.{ℤ, pos, _+ℤ_, _-ℤ_, _*ℤ_}
-use lib.Signed.{_≤ℤ_, ltZ}
+use lib.Signed.{_≤ℤ_, _<ℤ_, ltZ, leZ-yes}
 use lib.ListN.{getD}
 use Rattle.track.specs.declared.cell.Cell.{Cell}
 use Rattle.track.specs.declared.queries.Edges.{Edges}
@@ -16,14 +16,21 @@ pub record Instant : Type 0 where
   pub q : ℤ
   pub q-positive : pos 1 ≤ℤ q
 
+abbrev pub atMinute : ℤ → Instant
+atMinute m = record { p = m; q = pos 1; q-positive = leZ-yes tt }
+
+-- multiplied through
+abbrev pub NotAfter : Instant → Instant → Type 0
+NotAfter s t = (s .p *ℤ t .q) ≤ℤ (t .p *ℤ s .q)
+
 -- ---- what the instant has to lie in
 pub record InQuery (q : Query) (t : Instant) : Type 0 where
   pub from : (q .start .at *ℤ t .q) ≤ℤ t .p
   pub to : t .p ≤ℤ (q .end .at *ℤ t .q)
 
--- not after the expiry
+-- before the expiry
 pub record InLife (expiry : ℤ) (t : Instant) : Type 0 where
-  pub to : t .p ≤ℤ (expiry *ℤ t .q)
+  pub before : t .p <ℤ (expiry *ℤ t .q)
 
 -- ---- one axis
 -- a row: low and high edge at minute 0, low and high velocity

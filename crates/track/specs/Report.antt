@@ -3,7 +3,7 @@ use mathlib.Core.List.{List, [], _∷_}
 use mathlib.Core.Path.{_≡_}
 use Prim.Native.Nat.{ℕ}
 use lib.IntN.{ℤ}
-use lib.Signed.{_<ℤ_}
+use lib.Signed.{_≤ℤ_, _<ℤ_}
 use Rattle.track.specs.Numbers.{IsMinute, IsIdentifier, IsPosition, IsVelocity, kept}
 use Rattle.track.specs.Life.{noCell}
 use Rattle.track.specs.Refusals.{Reason, _when_, First, number}
@@ -30,7 +30,7 @@ abbrev pub reportReasons : ℤ → Report → List Reason
 reportReasons clock r =
     4 when (ReportInRange r → ⊥) ∷
     5 when (r .minute <ℤ clock) ∷
-    6 when (r .expiry <ℤ r .minute) ∷
+    6 when (r .expiry ≤ℤ r .minute) ∷
     []
 
 -- the cell that an accepted report is kept as

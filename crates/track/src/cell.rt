@@ -74,7 +74,7 @@ impl Cell {
         if early {
             return Reported::Refused(Refusal::BeforeClock);
         }
-        if expiry < minute {
+        if expiry <= minute {
             return Reported::Refused(Refusal::ExpiresFirst);
         }
         Reported::Kept(Cell {

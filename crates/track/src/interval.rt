@@ -114,13 +114,13 @@ impl Interval {
         self.cut(under).cut(over.turned())
     }
 
-    // Whether an instant of the interval is not after the expiry. Its low end is the earliest: if any is, that one is.
+    // Whether an instant of the interval is before the expiry. Its low end is the earliest: if any is, that one is.
     pub fn lives(self, expiry: i32) -> bool
         requires { ⌜ (Small self) × (Within 1440 expiry) ⌝ }
         ensures { λ r. ⌜ r ≡ livesIn self expiry ⌝ }
     {
         if self.lo * self.hid <= self.hi * self.lod {
-            self.lo <= wide(expiry) * self.lod
+            self.lo < wide(expiry) * self.lod
         } else {
             false
         }

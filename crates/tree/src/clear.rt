@@ -42,7 +42,7 @@ fn clear_one(t: &mut [i32], minute: i32, id: i32) -> bool
     true
 }
 
-// Clears out the cells whose life ended before the minute, and the one with this identifier.
+// Clears out the cells that do not live at the minute, and the one with this identifier.
 pub fn clear(t: &mut [i32], minute: i32, id: i32)
     requires { ⌜ Holding (now t) minute ⌝ }
     ensures { λ _. ⌜ Cleared (now (t .entry)) minute id (now (t .exit)) ⌝ }

@@ -16,11 +16,11 @@ ghost use Rattle.table.specs.Header.{entriesAt};
 ghost use Rattle.tree_laws.specs.Inner.Goes.{Goes};
 ghost use Rattle.tree_nodes.specs.Inner.Takes.{CanTake, Takes};
 
-// Whether the cell's life ended before the minute, or it is the one with this identifier.
+// Whether the cell does not live at the minute, or is the one with this identifier.
 fn goes(c: Cell, minute: i32, id: i32) -> bool
     ensures { λ r. ⌜ Tells r (Goes minute id c) ⌝ }
 {
-    (c.expiry.at < minute) | (c.id == id)
+    (c.expiry.at <= minute) | (c.id == id)
 }
 
 // Whether the cell goes that entry k of the leaf i is.

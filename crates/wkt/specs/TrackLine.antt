@@ -48,8 +48,8 @@ pub record TrackForm (first last : Point) (line : List ℕ) : Type 0 where
   pub to-spelt : PointText last to
   pub is : line ≡ lineStringWord ++ (from ++ (comma ++ (to ++ closing)))
 
--- ---- the line of a cell: where it stands at the clock and at its expiry, and one point where the expiry is the clock. A text has live cells only, so the
--- expiry is not before the clock
+-- ---- the line of a cell: where its track stands at the clock and at its expiry, and one point where the expiry is the clock. A text has live cells only, whose expiry
+-- is after the clock: so none of its lines is a point (`never-a-point` of charting/Laws)
 pub data LineOf (clock : ℤ) (c : Cell) (line : List ℕ) : Type 0 where
   at-one-point : c .expiry .at ≡ clock → PointForm (standsAt c clock) line → LineOf clock c line
   from-to : (c .expiry .at ≡ clock → ⊥) → TrackForm (standsAt c clock) (standsAt c (c .expiry .at)) line → LineOf clock c line

@@ -7,23 +7,14 @@ use track::cell::Cell;
 ghost use Prim.Native.Nat.{_≤_};
 ghost use lib.ListN.{length};
 ghost use Rattle.track.specs.Numbers.{IsMinute};
-ghost use Rattle.track.specs.Life.{CellInRange};
+ghost use Rattle.track.specs.Life.{LivesAt, CellInRange};
 ghost use Rattle.decimal.specs.Inner.PutBytes.{EndsBy, Put};
-ghost use Rattle.wkt.specs.TrackLine.{PointForm, TrackForm, LineOf};
+ghost use Rattle.wkt.specs.TrackLine.{TrackForm, LineOf};
 ghost use Rattle.wkt.specs.Inner.PointPut.{PointInRange};
 ghost use Rattle.wkt.specs.Inner.LinePut.{longest, LineLong};
 
 // The longest line has so many bytes, its line feed among them.
 pub const LONGEST: usize = 66;
-
-fn put_point_form(out: &mut [u8], p: Point) -> usize
-    requires { ⌜ (PointInRange p) × (longest ≤ length (now out)) ⌝ }
-    ensures { λ r. ⌜ Put (PointForm p) (now (out .entry)) 0 (now (out .exit)) r ⌝ }
-{
-    let at = put_text(out, 0, b"POINT M (");
-    let end = put_point(out, at, p);
-    put_text(out, end, b")\n")
-}
 
 fn put_track_form(out: &mut [u8], first: Point, last: Point) -> usize
     requires { ⌜ (PointInRange first) × (PointInRange last) × (longest ≤ length (now out)) ⌝ }
@@ -37,20 +28,17 @@ fn put_track_form(out: &mut [u8], first: Point, last: Point) -> usize
 }
 
 pub fn put_line(out: &mut [u8], clock: i32, c: Cell) -> usize
-    requires { ⌜ (CellInRange c) × (IsMinute clock) × (longest ≤ length (now out)) ⌝ }
+    requires { ⌜ (CellInRange c) × (IsMinute clock) × (LivesAt clock c) × (longest ≤ length (now out)) ⌝ }
     ensures { λ r. ⌜ Put (LineOf clock c) (now (out .entry)) 0 (now (out .exit)) r ⌝ }
 {
     let here = stands_at(c, clock);
     let there = stands_at(c, c.expiry.at);
-    if c.expiry.at == clock {
-        return put_point_form(out, here);
-    }
     put_track_form(out, here, there)
 }
 
 // How many bytes the line has.
 pub fn line_length(clock: i32, c: Cell) -> usize
-    requires { ⌜ (CellInRange c) × (IsMinute clock) ⌝ }
+    requires { ⌜ (CellInRange c) × (IsMinute clock) × (LivesAt clock c) ⌝ }
     ensures { λ r. ⌜ LineLong clock c r ⌝ }
 {
     let mut own = [0; LONGEST];
@@ -59,7 +47,7 @@ pub fn line_length(clock: i32, c: Cell) -> usize
 
 // Writes the line from a place on, where it may have just the room that it takes, and answers the place past it.
 pub fn put_line_at(out: &mut [u8], at: usize, clock: i32, c: Cell) -> usize
-    requires { ⌜ (CellInRange c) × (IsMinute clock) × EndsBy (LineOf clock c) at (length (now out)) ⌝ }
+    requires { ⌜ (CellInRange c) × (IsMinute clock) × (LivesAt clock c) × EndsBy (LineOf clock c) at (length (now out)) ⌝ }
     ensures { λ r. ⌜ Put (LineOf clock c) (now (out .entry)) at (now (out .exit)) r ⌝ }
 {
     let mut own = [0; LONGEST];

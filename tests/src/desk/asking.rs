@@ -38,19 +38,20 @@ pub fn everywhere(random: &mut Random, desk: &Desk) -> Line {
 }
 
 /// At a live cell: the rectangle touches it or misses it by one, at the start or on the way, and
-/// before or just after its expiry.
+/// before its expiry, in that very minute or just after it.
 pub fn aimed(random: &mut Random, desk: &Desk) -> Line {
     let live = &desk.model.cells;
     if live.is_empty() {
         return within(random, desk, POSITION, 10);
     }
     let cell = live[random.place(live.len())];
-    let last = cell.expiry.min(MINUTE);
-    let inside = random.between(desk.clock(), last);
-    let start = random.one_of(&[desk.clock(), inside, last, last + 1]).min(MINUTE);
+    let expiry = cell.expiry;
+    let inside = random.between(desk.clock(), expiry - 1);
+    let start = random.one_of(&[desk.clock(), inside, expiry - 1, expiry, expiry + 1]).min(MINUTE);
     let soon = start + random.between(0, 5);
-    let end = random.one_of(&[start, soon, soon, last, MINUTE]).clamp(start, MINUTE);
-    let touched = if random.coin() { start } else { random.between(start, end) };
+    let end = random.one_of(&[start, soon, soon, expiry, MINUTE]).clamp(start, MINUTE);
+    let on_the_way = random.between(start, end);
+    let touched = random.one_of(&[start, start, on_the_way, end]);
     let first = near(random, &cell, touched);
     let query = Query { start, end, first, last: near(random, &cell, end) };
     fitted(kind(random), query)

@@ -1,9 +1,10 @@
-//! Families of runs, each with the replies that it is meant to bring up.
+//! Families of runs, each with the replies and the lines that it is meant to bring up.
 
 use super::asking::{aimed, everywhere, spoiled, within};
 use super::damage::damaged;
+use super::ends::*;
 use super::line::Line;
-use super::model::Desk;
+use super::model::{Desk, CAPACITY};
 use super::worlds::{drop_at_ends, report_at_ends, World};
 use crate::question::{Report, POSITION, VELOCITY};
 use crate::random::Random;
@@ -29,14 +30,14 @@ pub const FAMILIES: &[Family] = &[
         sessions: 16,
         lines: 3_000,
         next: around_a_cell,
-        meant: &["ok", "hits 0", "hits", "no 7", "no 8"],
+        meant: &["ok", "hits 0", "hits", "no 7", "no 8", ASKED_LATE, TOUCHED_LATE],
     },
     Family {
         name: "ends of every range",
         sessions: 48,
         lines: 1_000,
         next: at_ends,
-        meant: &["ok", "hits 0", "hits", "no 4", "no 5", "no 6", "no 8"],
+        meant: &["ok", "hits 0", "hits", "no 4", "no 5", "no 6", "no 8", NO_LIFE, AT_LAST],
     },
     Family {
         name: "a table kept full",
@@ -50,14 +51,14 @@ pub const FAMILIES: &[Family] = &[
         sessions: 8,
         lines: 4_000,
         next: full_and_expiring,
-        meant: &["ok", "hits", "no 8", "no 9"],
+        meant: &["ok", "hits", "no 6", "no 8", "no 9", SUCCEEDS_ITSELF, SUCCEEDS_ANOTHER],
     },
     Family {
         name: "much expiry",
         sessions: 16,
         lines: 3_000,
         next: expiring,
-        meant: &["ok", "hits 0", "hits", "no 7", "no 8"],
+        meant: &["ok", "hits 0", "hits", "no 6", "no 7", "no 8", SUCCEEDS_ITSELF, DROPPED_LATE, ASKED_LATE],
     },
     Family {
         name: "several refusals",
@@ -124,6 +125,10 @@ fn kept_full(random: &mut Random, desk: &Desk) -> Vec<u8> {
 
 /// Each new minute comes to a table that was full, and makes room in it.
 fn full_and_expiring(random: &mut Random, desk: &Desk) -> Vec<u8> {
+    let full = desk.model.cells.len() as i32 == CAPACITY;
+    if full && random.between(0, 29) == 0 {
+        return RUSH.at_an_expiry(random, desk).bytes();
+    }
     match random.between(0, 19) {
         0..=16 => Line::Cell(RUSH.report(random, desk)),
         17 => RUSH.drop(random, desk),
@@ -136,6 +141,7 @@ fn full_and_expiring(random: &mut Random, desk: &Desk) -> Vec<u8> {
 fn expiring(random: &mut Random, desk: &Desk) -> Vec<u8> {
     match random.between(0, 9) {
         0..=4 => Line::Cell(BRIEF.report(random, desk)),
+        5 if random.coin() => BRIEF.at_an_expiry(random, desk),
         5 => BRIEF.drop(random, desk),
         6 => aimed(random, desk),
         _ => within(random, desk, 400, 4),
@@ -157,7 +163,7 @@ fn refused(random: &mut Random, desk: &Desk) -> Vec<u8> {
     .bytes()
 }
 
-/// A report before the clock, or one that expires before its minute, or both.
+/// A report before the clock, or one that does not expire after its minute, or both.
 fn early(random: &mut Random, desk: &Desk) -> Report {
     let mut report = PLANE.report(random, desk);
     if random.coin() {

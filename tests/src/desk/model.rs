@@ -7,7 +7,7 @@ use crate::tables::model::{Change, Model};
 use crate::tables::scan::body;
 
 /// The cells that the desk's table has room for, and the places of its list.
-const CAPACITY: i32 = 256;
+pub const CAPACITY: i32 = 256;
 const PLACES: usize = 256;
 
 #[derive(Clone, Debug, PartialEq, Eq)]

@@ -1,5 +1,6 @@
 //! A run of the desk: its input, and what it must print.
 
+use super::ends;
 use super::model::{Desk, Reply};
 use super::program::{output, Feeding};
 use crate::random::Random;
@@ -10,7 +11,8 @@ use std::path::Path;
 pub struct Session {
     pub input: Vec<u8>,
     pub expected: Vec<u8>,
-    pub replies: BTreeMap<String, u32>,
+    /// Replies by their kinds, and lines that have names.
+    pub counts: BTreeMap<String, u32>,
 }
 
 /// A reply by its kind: the count of hits is told roughly.
@@ -44,8 +46,11 @@ impl Session {
 
     pub fn add(&mut self, desk: &mut Desk, line: &[u8]) {
         assert!(!line.contains(&b'\n'), "one line at a time");
+        let named = ends::name(desk, line).map(str::to_string);
         let reply = desk.reply(line);
-        *self.replies.entry(kind_of(&reply)).or_insert(0) += 1;
+        for what in named.into_iter().chain([kind_of(&reply)]) {
+            *self.counts.entry(what).or_insert(0) += 1;
+        }
         self.input.extend_from_slice(line);
         self.input.push(b'\n');
         self.expected.extend_from_slice(reply.line().as_bytes());

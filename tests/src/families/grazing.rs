@@ -1,11 +1,21 @@
 //! A corner grazed: one coordinate enters the rectangle at a proper fraction of a minute, which
 //! is the instant at which the other leaves it. Half of the corners are moved one unit out of
-//! the cell's way.
+//! the cell's way. Some of the cells expire in the first whole minute after it.
 
 use super::touching::{beyond, in_plane, numerator, until_built, Moment};
 use super::Case;
 use crate::question::{Query, Question, Rectangle, Report, MINUTE, POSITION, VELOCITY};
 use crate::random::Random;
+
+const JUST_BEFORE_EXPIRY: &str = "yes, the corner is grazed in the minute before the expiry";
+
+pub const NAMES: &[&str] = &[JUST_BEFORE_EXPIRY];
+
+/// A minute after the corner, often the first; and the name of a grazing before that one.
+fn expiry(random: &mut Random, first: i32, grazes: bool) -> (i32, Option<&'static str>) {
+    let expiry = if random.coin() { first } else { random.between(first, MINUTE) };
+    (expiry, (grazes && expiry == first).then_some(JUST_BEFORE_EXPIRY))
+}
 
 /// One unit later for the coordinate that enters, or one unit earlier for the one that leaves.
 struct Shift {
@@ -36,6 +46,7 @@ fn try_window(random: &mut Random) -> Option<Case> {
     let left = beyond(random, leaves.place + back * shift.leaves, back);
     let ((x, xs), (y, ys)) =
         if random.coin() { ((enters, entered), (leaves, left)) } else { ((leaves, left), (enters, entered)) };
+    let (expiry, named) = expiry(random, moment.whole + 1, grazes);
     let report = Report {
         id: random.between(1, i32::MAX),
         x: x.reported,
@@ -43,12 +54,12 @@ fn try_window(random: &mut Random) -> Option<Case> {
         vx: x.velocity,
         vy: y.velocity,
         minute: moment.minute,
-        expiry: random.between(moment.whole + 1, MINUTE),
+        expiry,
     };
     let start = random.between(moment.minute, moment.whole);
     let end = random.between(moment.whole + 1, MINUTE);
     let query = Query::window(start, end, Rectangle::of(xs, ys));
-    Some(Case { question: Question { report, query }, known: Some(grazes as i32) })
+    Some(Case { question: Question { report, query }, known: Some(grazes as i32), named })
 }
 
 /// A moving query with the share n/k of its length at which the cell is to reach an edge.
@@ -83,6 +94,11 @@ impl Share {
         // One unit of room, so that an edge can be put one off.
         [first - 1, first + 1, last - 1, last + 1].iter().all(|&edge| in_plane(edge)).then_some(())?;
         Some(Crossing { reported, velocity, first, last, sign })
+    }
+
+    /// The last whole minute that is not after the share.
+    fn whole_minute(&self) -> i32 {
+        self.start + (self.end - self.start) * self.n / self.k
     }
 
     fn on_a_whole_minute(&self) -> bool {
@@ -132,6 +148,7 @@ fn try_moving(random: &mut Random) -> Option<Case> {
     let left = leaves.behind(random, shift.leaves);
     let ((x, xs), (y, ys)) =
         if random.coin() { ((enters, entered), (leaves, left)) } else { ((leaves, left), (enters, entered)) };
+    let (expiry, named) = expiry(random, share.whole_minute() + 1, grazes);
     let report = Report {
         id: random.between(1, i32::MAX),
         x: x.reported,
@@ -139,10 +156,10 @@ fn try_moving(random: &mut Random) -> Option<Case> {
         vx: x.velocity,
         vy: y.velocity,
         minute,
-        expiry: random.between(end, MINUTE),
+        expiry,
     };
     let first = Rectangle::of(xs[0], ys[0]);
     let last = Rectangle::of(xs[1], ys[1]);
     let query = Query { start, end, first, last };
-    Some(Case { question: Question { report, query }, known: Some(grazes as i32) })
+    Some(Case { question: Question { report, query }, known: Some(grazes as i32), named })
 }

@@ -6,6 +6,11 @@ use super::Case;
 use crate::question::{Query, Question, Rectangle, Report, MINUTE, POSITION, VELOCITY};
 use crate::random::Random;
 
+const EXPIRED_AT_START: &str = "no, inside all the time, but the life ends at the start";
+const EXPIRED_NEXT: &str = "yes, inside all the time, and the life ends a minute after the start";
+
+pub const NAMES: &[&str] = &[EXPIRED_AT_START, EXPIRED_NEXT];
+
 /// One axis: the cell's coordinate, and edges that stay as far from it as they are.
 struct Beside {
     reported: i32,
@@ -45,6 +50,12 @@ fn beside(random: &mut Random, times: &Times) -> Option<Beside> {
     })
 }
 
+/// After the report's minute; often at the start, where that can be, or a minute after it.
+fn expiry(random: &mut Random, times: &Times) -> i32 {
+    let any = random.between(times.minute + 1, MINUTE);
+    random.one_of(&[any, any, times.start, times.start + 1]).max(times.minute + 1)
+}
+
 fn question(random: &mut Random, times: &Times, x: &Beside, y: &Beside) -> Question {
     let report = Report {
         id: random.between(1, i32::MAX),
@@ -53,7 +64,7 @@ fn question(random: &mut Random, times: &Times, x: &Beside, y: &Beside) -> Quest
         vx: x.velocity,
         vy: y.velocity,
         minute: times.minute,
-        expiry: random.between(times.minute, MINUTE),
+        expiry: expiry(random, times),
     };
     let first = Rectangle::of(x.first, y.first);
     let last = Rectangle::of(x.last, y.last);
@@ -68,8 +79,15 @@ fn try_exactly(random: &mut Random) -> Option<Case> {
     let times = times(random);
     let (x, y) = (beside(random, &times)?, beside(random, &times)?);
     let question = question(random, &times, &x, &y);
-    let meets = x.inside && y.inside && question.report.expiry >= times.start;
-    Some(Case { question, known: Some(meets as i32) })
+    let inside = x.inside && y.inside;
+    let left_at_start = question.report.expiry - times.start;
+    let meets = inside && left_at_start > 0;
+    let named = match left_at_start {
+        0 if inside => Some(EXPIRED_AT_START),
+        1 if inside => Some(EXPIRED_NEXT),
+        _ => None,
+    };
+    Some(Case { question, known: Some(meets as i32), named })
 }
 
 pub fn nearly(random: &mut Random) -> Case {
@@ -87,5 +105,5 @@ fn try_nearly(random: &mut Random) -> Option<Case> {
     let times = times(random);
     let (x, y) = (beside(random, &times)?, beside(random, &times)?);
     let (x, y) = (drifting(random, x), drifting(random, y));
-    Some(Case { question: question(random, &times, &x, &y), known: None })
+    Some(Case { question: question(random, &times, &x, &y), known: None, named: None })
 }

@@ -7,7 +7,7 @@ use crate::question::{
 use crate::random::Random;
 
 fn unknown(question: Question) -> Case {
-    Case { question, known: None }
+    Case { question, known: None, named: None }
 }
 
 /// Every number anywhere in its range; most such questions are refused.
@@ -49,7 +49,7 @@ fn accepted(random: &mut Random, kind: Kind, reach: &Reach) -> Question {
         vx: random.between(-reach.velocity, reach.velocity),
         vy: random.between(-reach.velocity, reach.velocity),
         minute,
-        expiry: random.between(minute, reach.minute),
+        expiry: random.between(minute + 1, reach.minute),
     };
     let first = rectangle(random, reach);
     let last = match kind {
@@ -83,9 +83,16 @@ fn extreme(random: &mut Random, (least, greatest): (i32, i32)) -> i32 {
     random.one_of(&[least, least, least + 1, middle, greatest - 1, greatest, greatest])
 }
 
-fn put_in_order(question: &mut Question) {
+fn put_in_order(random: &mut Random, question: &mut Question) {
     let Question { report, query } = question;
     report.minute = report.minute.min(query.start).min(query.end).min(report.expiry);
+    // Most of those that expire as they are reported are given a minute to live, and some stay refused.
+    if report.expiry == report.minute && random.between(0, 3) > 0 {
+        match report.expiry {
+            MINUTE => report.minute -= 1,
+            _ => report.expiry += 1,
+        }
+    }
     (query.start, query.end) = (query.start.min(query.end), query.start.max(query.end));
     for r in [&mut query.first, &mut query.last] {
         *r = Rectangle::of(
@@ -100,7 +107,7 @@ pub fn extremes(random: &mut Random, kind: Kind) -> Case {
     let numbers: [i32; NUMBERS] = RANGES.map(|range| extreme(random, range));
     let mut question = Question::from_numbers(kind, &numbers);
     if random.between(0, 3) > 0 {
-        put_in_order(&mut question);
+        put_in_order(random, &mut question);
     }
     unknown(question)
 }

@@ -6,6 +6,14 @@ use crate::question::{Kind, Question, NUMBERS, RANGES};
 use crate::random::Random;
 use crate::refusal::{BACKWARD, BEFORE_CLOCK, EXPIRES_FIRST, OUT_OF_RANGE};
 
+const ALL_ALIKE: &str = "6: expiry, minute and start are the same";
+const BEFORE_7: &str = "6 before 7: expiry and minute are the same";
+const AFTER_5: &str = "5 before 6: expiry and minute are the same";
+const AFTER_4: &str = "4 before 6: expiry and minute are the same";
+const A_MINUTE_TO_LIVE: &str = "not 6: the expiry is the minute after";
+
+pub const NAMES: &[&str] = &[ALL_ALIKE, BEFORE_7, AFTER_5, AFTER_4, A_MINUTE_TO_LIVE];
+
 const MINUTE: usize = 5;
 const EXPIRY: usize = 6;
 const START: usize = 7;
@@ -38,7 +46,7 @@ pub fn range_ends(random: &mut Random, kind: Kind) -> Case {
         numbers[argument] = random.one_of(&[range.0, range.1]);
         None
     };
-    Case { question: Question::from_numbers(kind, &numbers), known }
+    Case { question: Question::from_numbers(kind, &numbers), known, named: None }
 }
 
 /// Any set of the four reasons at once. The least of them is the answer.
@@ -54,14 +62,27 @@ pub fn several(random: &mut Random, kind: Kind) -> Case {
     for &reason in &reasons {
         give_reason(random, kind, reason, &mut numbers);
     }
-    let known = reasons.into_iter().min();
-    Case { question: Question::from_numbers(kind, &numbers), known }
+    let known = reasons.iter().copied().min();
+    Case { question: Question::from_numbers(kind, &numbers), known, named: name(&reasons, &numbers) }
+}
+
+/// Where the expiry is the report's minute, or the next one.
+fn name(reasons: &[i32], numbers: &[i32; NUMBERS]) -> Option<&'static str> {
+    let has = |reason: i32| reasons.contains(&reason);
+    match numbers[EXPIRY].wrapping_sub(numbers[MINUTE]) {
+        1 if !has(OUT_OF_RANGE) && !has(BEFORE_CLOCK) => Some(A_MINUTE_TO_LIVE),
+        0 if has(OUT_OF_RANGE) => Some(AFTER_4),
+        0 if has(BEFORE_CLOCK) => Some(AFTER_5),
+        0 if has(BACKWARD) => Some(BEFORE_7),
+        0 if numbers[START] == numbers[MINUTE] => Some(ALL_ALIKE),
+        _ => None,
+    }
 }
 
 fn give_reason(random: &mut Random, kind: Kind, reason: i32, numbers: &mut [i32; NUMBERS]) {
     match reason {
         BEFORE_CLOCK => numbers[START] = numbers[MINUTE] - 1,
-        EXPIRES_FIRST => numbers[EXPIRY] = numbers[MINUTE] - 1,
+        EXPIRES_FIRST => numbers[EXPIRY] = numbers[MINUTE] - random.between(0, 1),
         BACKWARD => turn_backward(random, kind, numbers),
         _ => {
             let argument = any_argument(random, kind);

@@ -4,6 +4,12 @@ use super::Case;
 use crate::question::{Query, Question, Rectangle, Report, MINUTE, POSITION, VELOCITY};
 use crate::random::Random;
 
+const AT_EXPIRY: &str = "no, a timeslice at the expiry, at the cell";
+const BEFORE_EXPIRY: &str = "yes, a timeslice in the minute before the expiry, at the cell";
+const AT_LAST: &str = "no, a timeslice at 1,440 and at the cell, which expires then";
+
+pub const NAMES: &[&str] = &[AT_EXPIRY, BEFORE_EXPIRY, AT_LAST];
+
 pub fn in_plane(position: i32) -> bool {
     position.abs() <= POSITION
 }
@@ -87,8 +93,8 @@ pub fn one_instant(random: &mut Random) -> Case {
 }
 
 fn try_one_instant(random: &mut Random) -> Option<Case> {
-    let minute = random.between(0, MINUTE);
-    let start = random.between(minute, MINUTE);
+    let minute = random.between(0, MINUTE - 1);
+    let start = if random.between(0, 9) == 0 { MINUTE } else { random.between(minute, MINUTE) };
     let report = Report {
         id: random.between(1, i32::MAX),
         x: random.between(-POSITION, POSITION),
@@ -96,7 +102,7 @@ fn try_one_instant(random: &mut Random) -> Option<Case> {
         vx: random.between(-VELOCITY, VELOCITY),
         vy: random.between(-VELOCITY, VELOCITY),
         minute,
-        expiry: random.between((start - 1).max(minute), MINUTE.min(start + 1)),
+        expiry: random.between(start - 1, start + 1).clamp(minute + 1, MINUTE),
     };
     let x = report.x + report.vx * (start - minute);
     let y = report.y + report.vy * (start - minute);
@@ -108,6 +114,12 @@ fn try_one_instant(random: &mut Random) -> Option<Case> {
     [xs.0, xs.1, ys.0, ys.1].iter().all(|&edge| in_plane(edge)).then_some(())?;
     let inside = xs.0 <= x && x <= xs.1 && ys.0 <= y && y <= ys.1;
     let query = Query::window(start, start, Rectangle::of(xs, ys));
-    let known = Some((inside && report.expiry >= start) as i32);
-    Some(Case { question: Question { report, query }, known })
+    let left = report.expiry - start;
+    let named = match left {
+        0 if inside && start == MINUTE => Some(AT_LAST),
+        0 if inside => Some(AT_EXPIRY),
+        1 if inside => Some(BEFORE_EXPIRY),
+        _ => None,
+    };
+    Some(Case { question: Question { report, query }, known: Some((inside && left > 0) as i32), named })
 }

@@ -31,7 +31,7 @@ impl Style {
         Style {
             reach,
             speed,
-            life: random.one_of(&[0, 4, 30, 60, 400, MINUTE]),
+            life: random.one_of(&[1, 4, 30, 60, 400, MINUTE]),
             wait: random.one_of(&[0, 1, 1, 3, 3, 200]),
             reports: random.one_of(&[5, 6, 8, 9]),
             identifiers: random.one_of(&[capacity + 1, 2 * capacity + 1, i32::MAX]),
@@ -40,6 +40,11 @@ impl Style {
 
     /// A call that is mostly accepted, unless the table is full.
     pub fn change(&self, random: &mut Random, model: &Model, held: &[Cell]) -> Change {
+        if random.between(0, 14) == 0 {
+            if let Some(change) = self.at_an_expiry(random, model) {
+                return change;
+            }
+        }
         let minute = self.minute(random, model.clock);
         if random.between(1, 10) <= self.reports {
             let known = !model.cells.is_empty() && random.between(0, 3) == 0;
@@ -56,9 +61,29 @@ impl Style {
         Change::Drop { id, minute }
     }
 
+    /// In the minute in which the next life ends: a drop of that cell, which is refused, or a report,
+    /// which finds it gone, with its identifier or another.
+    fn at_an_expiry(&self, random: &mut Random, model: &Model) -> Option<Change> {
+        let ends = model.cells.iter().min_by_key(|cell| cell.expiry)?;
+        let minute = ends.expiry;
+        Some(match random.between(0, 2) {
+            0 => Change::Drop { id: ends.id, minute },
+            1 => Change::Report(self.report(random, ends.id, minute)),
+            _ => {
+                let id = random.between(1, self.identifiers);
+                Change::Report(self.report(random, id, minute))
+            }
+        })
+    }
+
     fn minute(&self, random: &mut Random, clock: i32) -> i32 {
         let wait = if random.coin() { 0 } else { random.between(0, self.wait) };
-        (clock + wait).min(MINUTE)
+        // At the last minute of all everything is refused, so few calls come then.
+        match clock + wait {
+            MINUTE.. if random.between(0, 2) == 0 => MINUTE,
+            MINUTE.. => clock.max(MINUTE - 1),
+            minute => minute,
+        }
     }
 
     pub fn report(&self, random: &mut Random, id: i32, minute: i32) -> Report {
@@ -68,8 +93,9 @@ impl Style {
             _ => random.between(-most, most),
         };
         let (x, y, vx, vy) = (near(self.reach), near(self.reach), near(self.speed), near(self.speed));
-        let expiry = (minute + random.between(0, self.life)).min(MINUTE);
-        Report { id, x, y, vx, vy, minute, expiry }
+        // Some expire as they are reported and are refused; so are all at the last minute of all.
+        let life = if random.between(0, 19) == 0 { 0 } else { random.between(1, self.life) };
+        Report { id, x, y, vx, vy, minute, expiry: (minute + life).min(MINUTE) }
     }
 }
 
@@ -112,6 +138,7 @@ pub fn spoiled_by(random: &mut Random, clock: i32, change: &Change, reasons: &[i
 fn spoil_report(random: &mut Random, clock: i32, numbers: &mut [i32; QUERY_AT], reason: i32) {
     match reason {
         BEFORE_CLOCK => numbers[MINUTE_AT] = before(random, clock),
+        EXPIRES_FIRST if random.coin() => numbers[EXPIRY_AT] = numbers[MINUTE_AT],
         EXPIRES_FIRST => numbers[EXPIRY_AT] = before(random, numbers[MINUTE_AT]),
         _ => {
             let number = random.place(QUERY_AT);

@@ -11,18 +11,15 @@ pub const LONGEST_LINE: usize = 66;
 /// Where a cell is, x and y in metres, and at which minute.
 pub type Point = [i32; 3];
 
-/// At the clock and at expiry; one point where these are the same minute.
-pub fn points(clock: i32, cell: &Cell) -> Vec<Point> {
-    let mut minutes = vec![clock, cell.expiry];
-    minutes.dedup();
-    minutes.iter().map(|&minute| [UNIT * cell.x_at(minute), UNIT * cell.y_at(minute), minute]).collect()
+/// At the clock, and at expiry, which for a live cell is after it.
+pub fn points(clock: i32, cell: &Cell) -> [Point; 2] {
+    assert!(clock < cell.expiry, "no line for a cell whose life is over");
+    [clock, cell.expiry].map(|minute| [UNIT * cell.x_at(minute), UNIT * cell.y_at(minute), minute])
 }
 
 pub fn line(clock: i32, cell: &Cell) -> String {
-    let points = points(clock, cell);
-    let kind = if points.len() == 1 { "POINT" } else { "LINESTRING" };
-    let spelt: Vec<String> = points.iter().map(|[x, y, minute]| format!("{x} {y} {minute}")).collect();
-    format!("{kind} M ({})\n", spelt.join(", "))
+    let [[x1, y1, m1], [x2, y2, m2]] = points(clock, cell);
+    format!("LINESTRING M ({x1} {y1} {m1}, {x2} {y2} {m2})\n")
 }
 
 /// The lines of live cells, one after the other.

@@ -68,11 +68,17 @@ impl Family {
     fn holds(&self, meant: &[&str], fewest: u32) -> bool {
         let counts: Vec<String> = self.counts.iter().map(|(kind, count)| format!("{kind} {count}")).collect();
         println!("{}: {}; {} wrong", self.name, counts.join(", "), self.wrong);
+        let came_up = self.brought_up(meant, fewest);
+        self.wrong == 0 && came_up
+    }
+
+    /// Whether all of it came up so often.
+    fn brought_up(&self, meant: &[&str], fewest: u32) -> bool {
         let rare = |kind: &&&str| self.counts.get(**kind).is_none_or(|&count| count < fewest);
         let missing: Vec<_> = meant.iter().filter(rare).collect();
         if !missing.is_empty() {
             println!("FAILED {}: under {fewest} of {missing:?}", self.name);
         }
-        self.wrong == 0 && missing.is_empty()
+        missing.is_empty()
     }
 }

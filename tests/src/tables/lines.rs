@@ -1,5 +1,5 @@
 //! Lines for other readers of well-known text: from the shortest to the longest, with positions on either
-//! side of 0, cells that move or stand still, and points. Nothing is compared here.
+//! side of 0, and cells that move or stand still. Nothing is compared here.
 
 use super::builder::{build, Plan};
 use super::chart::{points, LONGEST_LINE};
@@ -10,7 +10,7 @@ use super::worlds::Cell;
 use crate::question::{MINUTE, VELOCITY};
 use crate::random::Random;
 
-const CLOCKS: [i32; 7] = [0, 9, 10, 100, 1_000, MINUTE - 1, MINUTE];
+const CLOCKS: [i32; 7] = [0, 9, 10, 99, 100, 1_000, MINUTE - 1];
 
 const KEPTS: [i32; 12] = [0, 1, 9, 10, 99, 100, 1_000, 9_999, 10_000, 100_000, 500_000, KEPT];
 
@@ -37,9 +37,9 @@ pub fn print(library: &Library) {
     }
 }
 
-/// By rising distance from 0, each in its last minute, a minute before it or far from it in turn.
+/// By rising distance from 0, each with a minute to live, with two, or with many in turn.
 fn cells_at(clock: i32) -> Vec<Cell> {
-    let expiries = [clock, clock + 1, (clock + MINUTE) / 2, MINUTE];
+    let expiries = [clock + 1, clock + 2, (clock + MINUTE + 1) / 2, MINUTE];
     let mut cells = Vec::new();
     for kept in KEPTS {
         for (right, up) in SIGNS {

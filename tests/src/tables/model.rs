@@ -50,12 +50,13 @@ pub struct Model {
 
 impl Model {
     pub fn of(capacity: i32, clock: i32, held: &[Cell]) -> Model {
-        let cells = held.iter().copied().filter(|cell| cell.expiry >= clock).collect();
+        let cells = held.iter().copied().filter(|cell| cell.expiry > clock).collect();
         Model { capacity, clock, cells }
     }
 
+    /// Those that live past the minute: in the minute of its expiry a cell is absent.
     pub fn live_at(&self, minute: i32) -> Vec<Cell> {
-        self.cells.iter().copied().filter(|cell| cell.expiry >= minute).collect()
+        self.cells.iter().copied().filter(|cell| minute < cell.expiry).collect()
     }
 
     /// Those that are live at the call's minute, but for the one that the call is about.
@@ -74,7 +75,7 @@ impl Model {
             return BEFORE_CLOCK;
         }
         match change {
-            Change::Report(report) if report.expiry < report.minute => EXPIRES_FIRST,
+            Change::Report(report) if report.expiry <= report.minute => EXPIRES_FIRST,
             Change::Report(_) if self.others(change).len() as i32 >= self.capacity => FULL,
             Change::Drop { id, minute } if !self.live_at(*minute).iter().any(|cell| cell.id == *id) => {
                 NOT_LIVE

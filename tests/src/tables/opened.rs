@@ -148,14 +148,15 @@ impl<'a> Day<'a> {
     }
 
     fn run(&mut self, seen: &mut Seen) {
-        for minute in 0..=MINUTE {
+        // Nothing lives at the last minute of all, so nothing is reported then.
+        for minute in 0..MINUTE {
             self.report_sweep(minute, seen);
             for _ in 0..QUERIES_A_MINUTE {
                 self.ask(minute, seen);
             }
             self.move_on(minute);
             seen.minutes += 1;
-            seen.live += reading::cells(&self.words).iter().filter(|cell| cell.expiry >= minute).count();
+            seen.live += reading::cells(&self.words).iter().filter(|cell| minute < cell.expiry).count();
             seen.nodes += reading::inners(&self.words).len() + 1;
             seen.height += self.words[HEIGHT];
         }

@@ -23,6 +23,7 @@ pub fn accepted(random: &mut Random, table: &Table, kind: Kind) -> Asked {
     let query = match random.between(0, 9) {
         0 => anywhere(random, table.clock),
         1 => everywhere(table.clock),
+        2 => at_an_expiry(random, table, kind),
         _ => aimed(random, table),
     };
     Asked { kind, query: fitted(query, kind) }
@@ -56,22 +57,81 @@ fn everywhere(clock: i32) -> Query {
 
 /// At a cell or an entry, around the minutes that matter to it.
 fn aimed(random: &mut Random, table: &Table) -> Query {
-    let Some((rows, until)) = some_body(random, table) else {
+    let Some((rows, expiry)) = some_body(random, table) else {
         return anywhere(random, table.clock);
     };
     let clock = table.clock;
-    let last = until.clamp(clock, MINUTE);
-    let within = random.between(clock, last);
-    let start = random.one_of(&[clock, within, within, last, last + 1, last - 1]).clamp(clock, MINUTE);
+    let expiry = expiry.clamp(clock, MINUTE);
+    let within = random.between(clock, expiry);
+    let start = random.one_of(&[clock, within, within, expiry, expiry + 1, expiry - 1]).clamp(clock, MINUTE);
     let soon = start + random.between(0, 6);
-    let end = random.one_of(&[start, start + 1, soon, soon, last, MINUTE]).clamp(start, MINUTE);
+    let end = random.one_of(&[start, start + 1, soon, soon, expiry, MINUTE]).clamp(start, MINUTE);
     let first_at = if random.coin() { start } else { random.between(start, end) };
     let first = rectangle_near(random, &rows, first_at);
     let last = rectangle_near(random, &rows, end);
     Query { start, end, first, last }
 }
 
-/// Low and high edge and velocity on each axis, and the last minute that counts.
+/// At a cell that comes to the rectangle in the very minute of its expiry, or some parts of a minute
+/// sooner.
+fn at_an_expiry(random: &mut Random, table: &Table, kind: Kind) -> Query {
+    let clock = table.clock;
+    let mut cells = table.cells.clone();
+    cells.retain(|cell| cell.expiry >= clock);
+    if cells.is_empty() {
+        return aimed(random, table);
+    }
+    let cell = cells[random.place(cells.len())];
+    let expiry = cell.expiry;
+    let within = random.between(clock, expiry);
+    let start = random.one_of(&[expiry, expiry - 1, within]).max(clock);
+    let later = random.between(expiry, MINUTE);
+    let end = random.one_of(&[expiry, expiry, expiry, later]);
+    let on_x = random.coin();
+    let [x, y] =
+        [(cell.vx, cell.x_at(start), cell.x_at(expiry)), (cell.vy, cell.y_at(start), cell.y_at(expiry))];
+    let (comes, stays) = if on_x { (x, y) } else { (y, x) };
+    let reached = comes_to(random, comes);
+    let all_along = around(random, stays);
+    let rectangle = |reached: (i32, i32)| match on_x {
+        true => Rectangle::of(reached, all_along),
+        false => Rectangle::of(all_along, reached),
+    };
+    let last = rectangle(reached);
+    let from_ahead = kind == Kind::Moving && end == expiry && random.coin();
+    let first = if from_ahead { rectangle(ahead(random, comes, reached)) } else { last };
+    Query { start, end, first, last }
+}
+
+/// The velocity of a coordinate, where it is at the start, and where it is at the expiry.
+type Way = (i32, i32, i32);
+
+/// An interval that the coordinate enters at the expiry, or some units of its way sooner.
+fn comes_to(random: &mut Random, (velocity, _, place): Way) -> (i32, i32) {
+    let sign = velocity.signum();
+    let edge = place - sign * random.one_of(&[0, 0, 0, 1, 1, 2, 5]);
+    let width = random.one_of(&[0, 0, 1, 5, 100]);
+    in_the_plane(edge.min(edge + sign * width), edge.max(edge + sign * width))
+}
+
+/// The same interval, moved to where the coordinate has it before it at the start.
+fn ahead(random: &mut Random, (velocity, from, _): Way, (low, high): (i32, i32)) -> (i32, i32) {
+    let gap = random.between(1, 9);
+    let by = if velocity < 0 { from - gap - high } else { from + gap - low };
+    in_the_plane(low + by, high + by)
+}
+
+/// Where the coordinate is from the start to the expiry, and some more.
+fn around(random: &mut Random, (_, from, to): Way) -> (i32, i32) {
+    let more = random.one_of(&[0, 1, 50]);
+    in_the_plane(from.min(to) - more, from.max(to) + more)
+}
+
+fn in_the_plane(low: i32, high: i32) -> (i32, i32) {
+    (low.clamp(-POSITION, POSITION), high.clamp(-POSITION, POSITION))
+}
+
+/// Low and high edge and velocity on each axis, and the expiry.
 fn some_body(random: &mut Random, table: &Table) -> Option<([[i32; 4]; 2], i32)> {
     let inners = reading::inners(&table.words);
     if !inners.is_empty() && random.coin() {

@@ -6,7 +6,7 @@ use super::layout::CLOCK;
 use super::library::Answer;
 use super::reading::{self, Reached};
 use super::worlds::Cell;
-use crate::meeting::Body;
+use crate::meeting::{Body, Instant};
 use crate::question::{Kind, Query, Report};
 use crate::refusal::{query_refusal, NOT_SOUND, SHORT_LIST};
 
@@ -52,16 +52,31 @@ pub fn truth_for(words: &[i32], cells: &[Cell], asked: &Asked) -> Truth {
     Truth::Met { ids, opened: opened(words, reading::root(words), &asked.query) }
 }
 
-/// How many nodes are opened from an opened node on, itself counted.
+/// How many nodes are opened from an opened node on, itself counted. An entry opens its child where its
+/// rectangle touches the query's at an instant of the query that is before its greatest expiry.
 fn opened(words: &[i32], from: Reached, query: &Query) -> i32 {
     let mut all = 1;
     for inner in reading::children(words, from) {
-        let (rows, until) = reading::bounds(words, inner.at);
-        if Body::rows(rows, until).meets(query) {
+        let (rows, expiry) = reading::bounds(words, inner.at);
+        if Body::rows(rows, expiry).meets(query) {
             all += opened(words, inner.child, query);
         }
     }
     all
+}
+
+/// Whether an entry of an opened node touches the rectangle at the query's start and is left shut all
+/// the same, since that minute is its greatest expiry.
+pub fn shut_at_the_start(words: &[i32], from: Reached, query: &Query) -> bool {
+    reading::children(words, from).iter().any(|inner| {
+        let (rows, expiry) = reading::bounds(words, inner.at);
+        let entry = Body::rows(rows, expiry);
+        if entry.meets(query) {
+            shut_at_the_start(words, inner.child, query)
+        } else {
+            expiry == query.start && entry.touches_at(query, Instant::whole(expiry))
+        }
+    })
 }
 
 impl Truth {

@@ -11,9 +11,9 @@ pub const RECORD_NUMBERS: usize = 6;
 const HEADER_BYTES: usize = 16;
 const RECORD_BYTES: usize = 24;
 
-/// The cells whose expiry is not before the clock, by rising identifier.
+/// The cells whose expiry is after the clock, by rising identifier.
 pub fn live(cells: &[Cell], clock: i32) -> Vec<Cell> {
-    let mut live: Vec<Cell> = cells.iter().copied().filter(|cell| cell.expiry >= clock).collect();
+    let mut live: Vec<Cell> = cells.iter().copied().filter(|cell| cell.expiry > clock).collect();
     live.sort_by_key(|cell| cell.id);
     live
 }
@@ -54,9 +54,9 @@ pub fn said(bytes: &[u8], capacity: i32) -> Result<Said, i32> {
         return Err(FULL);
     }
     let cells: Vec<Cell> = numbers.chunks_exact(RECORD_NUMBERS).map(cell).collect();
-    let in_life = |cell: &Cell| in_range(cell) && cell.expiry >= clock;
+    let fits = |cell: &Cell| in_range(cell) && clock < cell.expiry;
     let rising = cells.windows(2).all(|pair| pair[0].id < pair[1].id);
-    if rising && cells.iter().all(in_life) {
+    if rising && cells.iter().all(fits) {
         Ok(Said { clock, cells })
     } else {
         Err(BAD_RECORD)

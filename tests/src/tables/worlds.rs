@@ -50,10 +50,17 @@ impl World {
         }
     }
 
-    /// So many cells, no two with the same identifier, some of them expired at the clock.
+    /// So many cells, no two with the same identifier, some of them expired at the clock, and some in
+    /// that very minute or the one after.
     pub fn cells(self, random: &mut Random, count: usize, clock: i32) -> Vec<Cell> {
         let ids = identifiers(random, count);
-        ids.into_iter().map(|id| self.cell(random, id, clock)).collect()
+        let mut cells: Vec<Cell> = ids.into_iter().map(|id| self.cell(random, id, clock)).collect();
+        for cell in &mut cells {
+            if random.between(0, 9) == 0 {
+                cell.expiry = random.one_of(&[clock, clock + 1]).min(MINUTE);
+            }
+        }
+        cells
     }
 
     fn cell(self, random: &mut Random, id: i32, clock: i32) -> Cell {
@@ -67,13 +74,13 @@ impl World {
                 expiry: random.between(0, 12),
             },
             World::Local => {
-                let minute = random.between((clock - 40).max(0), clock);
+                let minute = random.between((clock - 40).max(0), clock).min(MINUTE - 1);
                 let expiry = (minute + random.between(5, 60)).min(MINUTE);
                 reported(random, id, minute, 1_500, 60, expiry)
             }
             World::Plane => {
-                let minute = random.between(0, clock);
-                let expiry = random.between(minute, MINUTE);
+                let minute = random.between(0, clock).min(MINUTE - 1);
+                let expiry = random.between(minute + 1, MINUTE);
                 reported(random, id, minute, POSITION, VELOCITY, expiry)
             }
             World::Ends => Cell {

@@ -5,13 +5,13 @@ use mathlib.Core.List.{List, [], _∷_, _++_, List·Memᴰ·not-nil}
 use Prim.Native.Nat.{ℕ}
 use native.Mathlib.Decide.{ℕ-discrete}
 use native.Mathlib.Omega.{arith}
-use lib.IntN.{ℤ, pos, _-ℤ_, _*ℤ_}
+use lib.IntN.{ℤ}
 use lib.Signed.{_≤ℤ_, _<ℤ_}
 use Rattle.whole.specs.Lists.{_∈_}
-use Rattle.whole.specs.Laws.Order.{≤ℤ-trans, of-gap, gap-of, cancel, ring, not-before}
+use Rattle.whole.specs.Laws.Order.{≤ℤ-<ℤ-trans, not-before}
 use Rattle.words.specs.Words.{natOf}
 use Rattle.track.specs.Life.{LivesAt}
-use Rattle.track.specs.Meets.{CellMeets}
+use Rattle.track.specs.Laws.Life.{lives-at-start}
 use Rattle.track.specs.Query.{queryReasons}
 use Rattle.track.specs.Refusals.{Reason, _when_, First}
 use Rattle.track.specs.Laws.Refusals.{first-fixed}
@@ -49,18 +49,6 @@ always = (λ p. p, λ p. p)
 abbrev pub reasonsAt : List ℤ → Type 0 → Query → ℕ → List Reason
 reasonsAt w B q places = 1 when (Sound w → ⊥) ∷ (queryReasons (clock w) B q ++ (10 when (MoreHits w q places) ∷ []))
 
--- what meets a query lives at its start
-lives-at-start : (c : Cell) (q : Query) → CellMeets c q → LivesAt (q .start .at) c
-lives-at-start c q m =
-    let t = m .at in
-    let through = ≤ℤ-trans (m .in-query .from) (m .in-life .to) in
-    let s = q .start .at in
-    let e = c .expiry .at in
-    of-gap e s (cancel (t .q) (e -ℤ s) (t .q-positive) (subst (λ (z : ℤ). pos 0 ≤ℤ z) (factored s e (t .q)) (gap-of (e *ℤ t .q) (s *ℤ t .q) through)))
-  where
-    factored : (s e d : ℤ) → e *ℤ d -ℤ s *ℤ d ≡ d *ℤ (e -ℤ s)
-    factored s e d = simp ring
-
 pub alike-sym : {w v : List ℤ} → Alike w v → Alike v w
 alike-sym a = record {
   sound = a .sound′;
@@ -76,7 +64,7 @@ alike-itself s = record { sound = s; sound′ = s; capacity-is = refl; clock-is 
 -- ---- what holds of one holds of the other, from the clock on
 module _ {w v : List ℤ} (a : Alike w v) where
   held-too : (minute : ℤ) {c : Cell} → clock w ≤ℤ minute → LivesAt minute c → c ∈ held w → c ∈ held v
-  held-too minute {c} late lives m = a .live c .0 (record { is-held = m; in-life = ≤ℤ-trans late lives }) .is-held
+  held-too minute {c} late lives m = a .live c .0 (record { is-held = m; in-life = ≤ℤ-<ℤ-trans late lives }) .is-held
 
   stays-too : (minute id : ℤ) {c : Cell} → clock w ≤ℤ minute → Stays w minute id c → Stays v minute id c
   stays-too minute id late s = record { is-held = held-too minute late (s .lives) (s .is-held); lives = s .lives; other = s .other }

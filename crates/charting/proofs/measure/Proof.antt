@@ -1,10 +1,9 @@
 use Prim.Native.Nat.{_+_, _*_, _-_, _≤_}
-use mathlib.Core.Path.{_≡_, sym, _∙_, subst}
+use mathlib.Core.Path.{_≡_, _∙_, subst}
 use native.Mathlib.Omega.{arith}
 use mir.Syntax.{w32}
 use mir.Val.{toZ, ofZ}
 use Rattle.whole.specs.Laws.Within.{word-back}
-use Rattle.track.specs.Numbers.{IsMinute}
 use Rattle.table.specs.Header.{clock, greatestCapacity}
 use Rattle.leafing.specs.NextLive.{NextLive}
 use Rattle.leafing.specs.Laws.CellsPassed.{next-cell-in, next-cell-back}
@@ -54,7 +53,7 @@ returns c =
     measuring-all (s .pre) (at .loop .inv) (subst (NextLive (s .args .t .now) (toZ w32 (at .loop .last))) (c .enum-told .given .1) (c .before .before .next-of-sound .ensures))
 
 line-length-requires : tie.Need-line-length-requires Inv-loop μ-loop
-line-length-requires c κs = let f = c .before in (next-cell-in (start f .pre) (found f), subst IsMinute (sym (clock-is (turn f .before))) (start f .pre .clock-in))
+line-length-requires c κs = let f = c .before in rw (clock-is (turn f .before)) (next-cell-in (start f .pre) (found f), start f .pre .clock-in, found f .is-one .in-life)
 
 add-total : tie.Need-add-total Inv-loop μ-loop
 add-total c = omega (arith, few c)

@@ -62,7 +62,7 @@ put-line-at-requires : tie.Need-put-line-at-requires Inv-loop μ-loop
 put-line-at-requires c κs =
     let f = c .before .before in
     let can = start (turn f) .pre in
-    rw (clock-is (turn f .before)) (next-cell-in (can .sound) (found f), can .sound .clock-in, line-fits can (turn f .loop .inv) _ (found f))
+    rw (clock-is (turn f .before)) (next-cell-in (can .sound) (found f), can .sound .clock-in, found f .is-one .in-life, line-fits can (turn f .loop .inv) _ (found f))
 
 loop-less : tie.Need-loop-less Inv-loop μ-loop
 loop-less c = let p = line (c .before .before .before) in omega (arith, p .end, line-some (p .spelt), c .before .before .before .before .before .before .before .before .before .loop-test .taken)

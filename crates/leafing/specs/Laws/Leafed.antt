@@ -14,6 +14,7 @@ use Rattle.whole.specs.Rising.{Rising, rising-one, rising-more}
 use Rattle.whole.specs.Laws.Rising.{rising-tail}
 use Rattle.whole.specs.Inner.Times.{once-if}
 use Rattle.track.specs.Life.{identifier, LivesAt}
+use Rattle.track.specs.Laws.Life.{lives-decided}
 use Rattle.track.specs.declared.cell.Cell.{Cell}
 use Rattle.table.specs.Header.{clock}
 use Rattle.table.specs.Sound.{Sound, Live, held}
@@ -119,17 +120,17 @@ one-less last {c} (List·Memᴰ·tail {x} m) h = omega (arith, above-less last (
 
 -- there is a next cell, or none
 one-extends : (s : Sought) (c : Cell) (best : Next) → (r : Next) × Extends s (c ∷ []) best r
-one-extends s c best = by (≤ℤ-or-<ℤ (s .clock) (c .expiry .at)) (≤ℤ-or-<ℤ (c .id) (s .last))
+one-extends s c best = by (lives-decided (s .clock) c) (≤ℤ-or-<ℤ (c .id) (s .last))
   where
     wanted : LivesAt (s .clock) c → s .last <ℤ c .id → (b : Next) → best ≡ b → (r : Next) × Extends s (c ∷ []) best r
     wanted life up None e = (One c, extends-first s c life up best e)
     wanted life up (One b) e =
         ⊎-elim (λ le. (One b, extends-kept s c life up b best e le)) (λ lt. (One c, extends-lower s c life up b best e (<ℤ→≤ℤ lt))) (≤ℤ-or-<ℤ (b .id) (c .id))
 
-    by : (s .clock ≤ℤ c .expiry .at) ⊎ (c .expiry .at <ℤ s .clock) → (c .id ≤ℤ s .last) ⊎ (s .last <ℤ c .id) → (r : Next) × Extends s (c ∷ []) best r
-    by (inr expired) k = (best, extends-passed s c best (λ life up. clashℤ expired life))
-    by (inl life) (inl low) = (best, extends-passed s c best (λ life up. clashℤ up low))
-    by (inl life) (inr up) = wanted life up best refl
+    by : Dec (LivesAt (s .clock) c) → (c .id ≤ℤ s .last) ⊎ (s .last <ℤ c .id) → (r : Next) × Extends s (c ∷ []) best r
+    by (no expired) k = (best, extends-passed s c best (λ life up. expired life))
+    by (yes life) (inl low) = (best, extends-passed s c best (λ life up. clashℤ up low))
+    by (yes life) (inr up) = wanted life up best refl
 
 all-extend : (s : Sought) (cells : List Cell) (best : Next) → (r : Next) × Extends s cells best r
 all-extend s [] best = (best, extends-none)

@@ -10,7 +10,7 @@ use lib.ListN.{length}
 use lib.Signed.{_≤ℤ_}
 use Rattle.whole.specs.Lists.{_∈_}
 use Rattle.whole.specs.Laws.Lists.{keep-in, in-keep}
-use Rattle.whole.specs.Laws.Order.{≤ℤ-trans}
+use Rattle.whole.specs.Laws.Order.{≤ℤ-<ℤ-trans}
 use Rattle.track.specs.Life.{LivesAt}
 use Rattle.track.specs.Laws.Refusals.{not-zero}
 use Rattle.track.specs.declared.cell.Cell.{Cell}
@@ -41,12 +41,12 @@ in-others id {c} m n = in-keep (λ d. differs (ℤ-discrete (d .id) id)) m (not-
 -- ---- a step at a minute that is not before the clock: what stays in the table is what the model has besides the identifier
 module _ {m : Model} {w : List ℤ} (t : Together m w) {minute id : ℤ} (late : clock w ≤ℤ minute) where
   stays-left : (c : Cell) → Stays w minute id c → c ∈ others id (m .left)
-  stays-left c s = in-others id (t .live c .0 (record { is-held = s .is-held; in-life = ≤ℤ-trans late (s .lives) }) .is-left) (s .other)
+  stays-left c s = in-others id (t .live c .0 (record { is-held = s .is-held; in-life = ≤ℤ-<ℤ-trans late (s .lives) }) .is-left) (s .other)
 
   left-stays : (c : Cell) → LivesAt minute c → c ∈ others id (m .left) → Stays w minute id c
   left-stays c lives n =
       let o = others-in id (m .left) n in
-      let l = t .live c .1 (record { is-left = o .0; in-life = rw (← t .clock-is) (≤ℤ-trans late lives) }) in
+      let l = t .live c .1 (record { is-left = o .0; in-life = rw (← t .clock-is) (≤ℤ-<ℤ-trans late lives) }) in
       record { is-held = l .is-held; lives = lives; other = o .1 }
 
   drop-together : {v : List ℤ} → Step w v minute (Stays w minute id) → Together (record { clock = minute; left = others id (m .left) }) v

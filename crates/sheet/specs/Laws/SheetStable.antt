@@ -29,6 +29,6 @@ header-stable {bytes} f = record {
 pub records-stable : {clock : ℤ} {cells : List Cell} → ((CellsSound clock cells → ⊥) → ⊥) → CellsSound clock cells
 records-stable {cells} f = record {
   in-range = λ c m. cell-stable (λ n. f (λ h. n (h .in-range c m)));
-  in-life = λ c m. ≤ℤ-stable (λ n. f (λ h. n (h .in-life c m)));
+  in-life = λ c m. <ℤ-stable (λ n. f (λ h. n (h .in-life c m)));
   rising = rising-stable (λ a b. <ℤ-stable) (map identifier cells) (λ n. f (λ h. n (h .rising)));
 }

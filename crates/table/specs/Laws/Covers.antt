@@ -4,9 +4,9 @@ use mathlib.Core.Bool.{Bool, true, false}
 use mathlib.Core.List.{List, [], _∷_, List·Memᴰ·not-nil, Memᴰ·map}
 use Prim.Native.Nat.{ℕ, zero, suc}
 use lib.IntN.{ℤ, pos, _*ℤ_}
-use lib.Signed.{_≤ℤ_, leZ-yes}
+use lib.Signed.{_≤ℤ_, <ℤ-≤ℤ-trans}
 use Rattle.whole.specs.Lists.{_∈_}
-use Rattle.whole.specs.Laws.Order.{≤ℤ-trans, *ℤ-mono}
+use Rattle.whole.specs.Laws.Order.{≤ℤ-trans, *ℤ-mono, positive}
 use Rattle.track.specs.Meets.{Instant, Meets, MeetsAt, CellMeets}
 use Rattle.track.specs.Laws.Hull.{Covers, hull-covers, covers-touches, greatest-above}
 use Rattle.track.specs.declared.queries.Query.{Query}
@@ -28,7 +28,7 @@ latest-above leaf (e ∷ es) m = greatest-above _ _ (Memᴰ·map (untilOf leaf) 
 
 -- at a minute not after the query's start it is not after any of the query's instants
 from-start : (stamp start p q : ℤ) → pos 1 ≤ℤ q → stamp ≤ℤ start → (start *ℤ q) ≤ℤ p → (stamp *ℤ q) ≤ℤ p
-from-start stamp start p q g h k = ≤ℤ-trans (*ℤ-mono stamp start q h (≤ℤ-trans (leZ-yes tt) g)) k
+from-start stamp start p q g h k = ≤ℤ-trans (*ℤ-mono stamp start q h (positive g)) k
 
 -- where one of its child's entries meets a query that does not start before its stamp, it meets the query at the same instant
 pub entry-covers : {leaf : Bool} {e f : Entry} {es : List Entry} {q : Query} {t : Instant} → WorkedOut leaf e es → f ∈ es → stampOf e ≤ℤ q .start .at
@@ -42,7 +42,7 @@ entry-covers {leaf} {e} {f} {es} {q} w m early (met, at-t) =
       record {
         at = t;
         in-query = met .in-query;
-        in-life = record { to = ≤ℤ-trans (met .in-life .to) (*ℤ-mono _ _ (t .q) until (≤ℤ-trans (leZ-yes tt) (t .q-positive))) };
+        in-life = record { before = <ℤ-≤ℤ-trans (met .in-life .before) (*ℤ-mono _ _ (t .q) until (positive (t .q-positive))) };
         on-x = covers-touches on-x q (q .x) t late (met .on-x);
         on-y = covers-touches on-y q (q .y) t late (met .on-y);
       },

@@ -26,4 +26,4 @@ cutTo i a b =
 -- ---- an instant of the interval that is in life
 -- the low end is the earliest instant, and the life only bounds from above: so it is enough to look there
 unfoldable pub livesIn : Interval → ℤ → Bool
-livesIn i expiry = cond (leZ (i .lo *ℤ i .hid) (i .hi *ℤ i .lod)) (leZ (i .lo) (expiry *ℤ i .lod)) false
+livesIn i expiry = cond (leZ (i .lo *ℤ i .hid) (i .hi *ℤ i .lod)) (ltZ (i .lo) (expiry *ℤ i .lod)) false

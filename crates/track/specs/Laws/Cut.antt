@@ -4,12 +4,13 @@ use mathlib.Core.Bool.{Bool, true, false, cond}
 use native.Mathlib.Nat.{mul-le-mul-right}
 use native.Mathlib.Omega.{arith}
 use lib.IntN.{ℤ, pos, negℤ, _+ℤ_, _-ℤ_, _*ℤ_}
-use lib.Signed.{_≤ℤ_, _<ℤ_, ltZ, leZ, leZ-yes, ≤ℤ-refl, clashℤ}
+use lib.Signed.{_≤ℤ_, _<ℤ_, ltZ, leZ, leZ-yes, ltZ-yes, ≤ℤ-refl, clashℤ}
 use Rattle.whole.specs.Laws.Difference.{each, nat, all2, all3, all4, difs, cross}
-use Rattle.whole.specs.Laws.Order.{ltZ-true, ltZ-false, leZ-true, leZ-false, <ℤ→≤ℤ, ≤ℤ-trans, ≤ℤ-antisym, of-gap, cancel, *ℤ-one}
+use Rattle.whole.specs.Laws.Order.{ltZ-true, ltZ-false, leZ-true, leZ-false, <ℤ→≤ℤ, ≤ℤ-antisym, of-gap, positive, cancel}
 use Rattle.whole.specs.Tells.{Tells}
 use Rattle.whole.specs.Laws.Tells.{tells-false}
 use Rattle.track.specs.Meets.{Instant, InLife}
+use Rattle.track.specs.Laws.Life.{in-order, earlier-lives}
 use Rattle.track.specs.Inner.Cut.{startsAt, endsAt, never, cutTo, livesIn}
 use Rattle.track.specs.declared.interval.Interval.{Interval}
 
@@ -83,9 +84,6 @@ one-le = each _ λ _ _. simp difs (omega arith)
 
 one-le-neg : (b : ℤ) → b <ℤ pos 0 → pos 1 ≤ℤ negℤ b
 one-le-neg = each _ λ _ _. simp difs (omega arith)
-
-positive : {z : ℤ} → pos 1 ≤ℤ z → pos 0 ≤ℤ z
-positive h = ≤ℤ-trans (leZ-yes tt) h
 
 -- ---- one law for each way through the cut
 module _ (i : Interval) (a b : ℤ) (s : Proper i) where
@@ -206,37 +204,26 @@ pub record SomeIn (i : Interval) (expiry : ℤ) : Type 0 where
   pub inside : Inside i at
   pub in-life : InLife expiry at
 
-in-order·q : (l u p q d : ℤ) → pos 0 ≤ℤ d → (e : ℤ) → pos 0 ≤ℤ e → (l *ℤ q) ≤ℤ (p *ℤ d) → (p *ℤ e) ≤ℤ (u *ℤ q) → pos 0 ≤ℤ (q *ℤ (u *ℤ d -ℤ l *ℤ e))
-in-order·q = all4 _ λ _ _ _ _ _ _ _ _. nat _ λ d. nat _ λ e. simp difs (λ k m. omega (arith, mul-le-mul-right e k, mul-le-mul-right d m))
-
--- an instant between l/d and u/e shows that they are in order
-pub in-order : (l d u e : ℤ) (t : Instant) → pos 1 ≤ℤ d → pos 1 ≤ℤ e → (l *ℤ t .q) ≤ℤ (t .p *ℤ d) → (t .p *ℤ e) ≤ℤ (u *ℤ t .q) → (l *ℤ e) ≤ℤ (u *ℤ d)
-in-order l d u e t g h k m = of-gap _ _ (cancel (t .q) _ (t .q-positive) (in-order·q l u (t .p) (t .q) d (positive g) e (positive h) k m))
-
-in-order-lives : (i : Interval) (expiry : ℤ) → Proper i → (i .lo *ℤ i .hid) ≤ℤ (i .hi *ℤ i .lod) → Tells (leZ (i .lo) (expiry *ℤ i .lod)) (SomeIn i expiry)
+in-order-lives : (i : Interval) (expiry : ℤ) → Proper i → (i .lo *ℤ i .hid) ≤ℤ (i .hi *ℤ i .lod) → Tells (ltZ (i .lo) (expiry *ℤ i .lod)) (SomeIn i expiry)
 in-order-lives i expiry s h = record {
-  sure = λ k. record {
-    at = record { p = i .lo; q = i .lod; q-positive = s .lod-positive };
-    inside = record { after = ≤ℤ-refl (i .lo *ℤ i .lod); until = h };
-    in-life = record { to = leZ-yes k };
-  };
-  seen = λ x.
-      let life : (x .at .p *ℤ pos 1) ≤ℤ (expiry *ℤ x .at .q) = rw *ℤ-one (x .in-life .to) in
-      let late = in-order (i .lo) (i .lod) expiry (pos 1) (x .at) (s .lod-positive) (leZ-yes tt) (x .inside .after) life in
-      (rw *ℤ-one at late) .le;
+  sure = λ k. record { at = low-end; inside = record { after = ≤ℤ-refl (i .lo *ℤ i .lod); until = h }; in-life = record { before = ltZ-yes k } };
+  seen = λ x. earlier-lives low-end (x .at) (x .inside .after) (x .in-life) .before .lt;
 }
+  where
+    low-end : Instant
+    low-end = record { p = i .lo; q = i .lod; q-positive = s .lod-positive }
 
 pub lives-law : (i : Interval) (expiry : ℤ) → Proper i → Tells (livesIn i expiry) (SomeIn i expiry)
 unfolding livesIn
 lives-law i expiry s = by (leZ (i .lo *ℤ i .hid) (i .hi *ℤ i .lod)) refl
   where
-    by : (f : Bool) → leZ (i .lo *ℤ i .hid) (i .hi *ℤ i .lod) ≡ f → Tells (cond f (leZ (i .lo) (expiry *ℤ i .lod)) false) (SomeIn i expiry)
+    by : (f : Bool) → leZ (i .lo *ℤ i .hid) (i .hi *ℤ i .lod) ≡ f → Tells (cond f (ltZ (i .lo) (expiry *ℤ i .lod)) false) (SomeIn i expiry)
     by true e = in-order-lives i expiry s (leZ-true e)
     by false e =
         tells-false λ x.
         clashℤ (leZ-false e) (in-order (i .lo) (i .lod) (i .hi) (i .hid) (x .at) (s .lod-positive) (s .hid-positive) (x .inside .after) (x .inside .until))
 
-pub lives-in-order : (i : Interval) (expiry : ℤ) → leZ (i .lo *ℤ i .hid) (i .hi *ℤ i .lod) ≡ true → leZ (i .lo) (expiry *ℤ i .lod) ≡ livesIn i expiry
+pub lives-in-order : (i : Interval) (expiry : ℤ) → leZ (i .lo *ℤ i .hid) (i .hi *ℤ i .lod) ≡ true → ltZ (i .lo) (expiry *ℤ i .lod) ≡ livesIn i expiry
 unfolding livesIn
 lives-in-order i expiry e = rw e
 

@@ -8,7 +8,7 @@ use lib.IntN.{ℤ, pos, _+ℤ_, _-ℤ_, _*ℤ_, *ℤ-comm, -ℤ-+ℤ-cancel}
 use lib.Signed.{_≤ℤ_, ltZ, leZ-yes, ≤ℤ-refl}
 use Rattle.whole.specs.Laws.Difference.{all5, difs}
 use Rattle.whole.specs.Lists.{_∈_}
-use Rattle.whole.specs.Laws.Order.{ltZ-true, ltZ-false, <ℤ→≤ℤ, ≤ℤ-trans, +ℤ-mono, *ℤ-mono, gap-of}
+use Rattle.whole.specs.Laws.Order.{ltZ-true, ltZ-false, <ℤ→≤ℤ, ≤ℤ-trans, +ℤ-mono, *ℤ-mono, gap-of, positive}
 use Rattle.track.specs.Meets.{Instant, Row, low, high, lowVelocity, highVelocity, span, Touches}
 use Rattle.track.specs.Hull.{lowAt, highAt, lesser, greater, picked, leastOf, greatestOf, hull}
 use Rattle.track.specs.declared.queries.Edges.{Edges}
@@ -125,14 +125,11 @@ stays-below a v b w stamp p q g h k m =
     rw (← from-stamp a v stamp p q, ← from-stamp b w stamp p q) (+ℤ-mono _ _ _ _ (*ℤ-mono _ _ q h g) (*ℤ-mono _ _ (p -ℤ stamp *ℤ q) k (gap-of p (stamp *ℤ q) m)))
 
 module _ {stamp : ℤ} {h s : Row} (c : Covers stamp h s) (t : Instant) (late : (stamp *ℤ t .q) ≤ℤ t .p) where
-  positive : pos 0 ≤ℤ t .q
-  positive = ≤ℤ-trans (leZ-yes tt) (t .q-positive)
-
   pub low-covers : (low h *ℤ t .q +ℤ lowVelocity h *ℤ t .p) ≤ℤ (low s *ℤ t .q +ℤ lowVelocity s *ℤ t .p)
-  low-covers = stays-below (low h) (lowVelocity h) (low s) (lowVelocity s) stamp (t .p) (t .q) positive (c .low-edge) (c .low-velocity) late
+  low-covers = stays-below (low h) (lowVelocity h) (low s) (lowVelocity s) stamp (t .p) (t .q) (positive (t .q-positive)) (c .low-edge) (c .low-velocity) late
 
   pub high-covers : (high s *ℤ t .q +ℤ highVelocity s *ℤ t .p) ≤ℤ (high h *ℤ t .q +ℤ highVelocity h *ℤ t .p)
-  high-covers = stays-below (high s) (highVelocity s) (high h) (highVelocity h) stamp (t .p) (t .q) positive (c .high-edge) (c .high-velocity) late
+  high-covers = stays-below (high s) (highVelocity s) (high h) (highVelocity h) stamp (t .p) (t .q) (positive (t .q-positive)) (c .high-edge) (c .high-velocity) late
 
 -- ---- in a query's words
 pub span-positive : (q : Query) → pos 1 ≤ℤ span q
@@ -144,7 +141,7 @@ span-positive q = by (ltZ (q .end .at -ℤ q .start .at) (pos 1)) refl
     by false e = ltZ-false e
 
 scaled : (d a b : ℤ) → pos 1 ≤ℤ d → a ≤ℤ b → (d *ℤ a) ≤ℤ (d *ℤ b)
-scaled d a b h k = rw (*ℤ-comm d a, *ℤ-comm d b) (*ℤ-mono a b d k (≤ℤ-trans (leZ-yes tt) h))
+scaled d a b h k = rw (*ℤ-comm d a, *ℤ-comm d b) (*ℤ-mono a b d k (positive h))
 
 -- where a row touches, so does any that covers it
 pub covers-touches : {stamp : ℤ} {h s : Row} → Covers stamp h s → (q : Query) (e : Edges) (t : Instant) → (stamp *ℤ t .q) ≤ℤ t .p → Touches q e s t → Touches q e h t

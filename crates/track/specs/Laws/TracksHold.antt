@@ -6,19 +6,20 @@ use mathlib.Core.List.{List, [], _∷_}
 use lib.Dec.{T}
 use lib.IntN.{ℤ, pos, _-ℤ_, _*ℤ_}
 use lib.ListN.{getD}
-use lib.Signed.{_≤ℤ_, leZ, leZ-yes}
+use lib.Signed.{_≤ℤ_, leZ, ltZ, leZ-yes, ltZ-yes}
 use native.Mathlib.Omega.{arith}
 use Rattle.whole.specs.Laws.Difference.{all2, difs, cross}
-use Rattle.whole.specs.Laws.Order.{≤ℤ-antisym, ≤ℤ-trans, of-gap, gap-of, cancel, *ℤ-one, ring}
+use Rattle.whole.specs.Laws.Order.{≤ℤ-antisym, of-gap, gap-of, positive, cancel, ring}
 use Rattle.whole.specs.Tells.{Tells}
 use Rattle.track.specs.Numbers.{kept}
 use Rattle.track.specs.Meets.{Instant, InLife, Row, Bounds, MeetsAt, CellMeets, cellBounds, span}
 use Rattle.track.specs.Hull.{hull, lowAt, highAt, picked, lesser, greater}
 use Rattle.track.specs.Inner.Cut.{cutTo, livesIn}
-use Rattle.track.specs.Laws.Cut.{Inside, Proper, in-order}
+use Rattle.track.specs.Laws.Life.{earlier-lives}
+use Rattle.track.specs.Laws.Cut.{Inside, Proper}
 use Rattle.track.specs.Inner.Decides.{alongTo}
 use Rattle.track.specs.Laws.Decides.{wholeOf, meetsIn, meetingOf, along-law, whole-proper, whole-law, meeting-law, meets-law}
-use Rattle.track.specs.Tracks.{Stretch, _to_, During, Throughout, Claim, meets, misses, meetsFrom, missesApart, keeps, spans, InsideOn, Holds, Track, P, tracks, AllHold}
+use Rattle.track.specs.Tracks.{Stretch, _to_, During, Throughout, Claim, meets, misses, meetsFrom, missesThough, keeps, spans, InsideOn, Holds, Track, P, tracks, AllHold}
 use Rattle.track.specs.declared.interval.Interval.{Interval}
 use Rattle.track.specs.declared.queries.Edges.{Edges}
 use Rattle.track.specs.declared.queries.Query.{Query}
@@ -57,7 +58,7 @@ times-not-negative = all2 _ λ _ _ _ _. simp difs (λ h k. omega (arith, cross h
 
 -- two differences of which one is the other by a fraction above 0
 scaled : (d e x y : ℤ) → pos 1 ≤ℤ d → pos 1 ≤ℤ e → d *ℤ y ≡ e *ℤ x → pos 0 ≤ℤ x → pos 0 ≤ℤ y
-scaled d e x y h k eq n = cancel d y h (rw eq (times-not-negative e x (≤ℤ-trans (leZ-yes tt) k) n))
+scaled d e x y h k eq n = cancel d y h (rw eq (times-not-negative e x (positive k) n))
 
 -- n/d and m/e are the sameNumber: what is not before the one is not before the other, and what is not after it neither
 module _ (n d m e : ℤ) (h : pos 1 ≤ℤ d) (k : pos 1 ≤ℤ e) (eq : n *ℤ e ≡ m *ℤ d) (p q : ℤ) where
@@ -98,14 +99,12 @@ stretch-law i (first to last) proper same-ends t =
     )
 
 -- ---- a law for each kind of claim
--- the life does not end before the stretch
+-- the stretch's last instant is in life
 abbrev livesOn : ℤ → Stretch → Bool
-livesOn expiry (first to last) = leZ (last .p *ℤ pos 1) (expiry *ℤ last .q)
+livesOn expiry (first to last) = ltZ (last .p) (expiry *ℤ last .q)
 
 in-life : (expiry : ℤ) (s : Stretch) (t : Instant) → T (livesOn expiry s) → During s t → InLife expiry t
-in-life expiry (first to last) t lives m =
-    let early = in-order (t .p) (t .q) expiry (pos 1) last (t .q-positive) (leZ-yes tt) (m .1) (leZ-yes lives) in
-    record { to = rw *ℤ-one at early }
+in-life expiry (first to last) t lives m = earlier-lives t last (m .1) (record { before = ltZ-yes lives })
 
 meets-throughout : (b : Bounds) (expiry : ℤ) (q : Query) (s : Stretch) → T (sameEnds (meetingOf b q) s) → T (livesOn expiry s) → Throughout s (MeetsAt b expiry q)
 meets-throughout b expiry q s same-ends lives t =
@@ -140,7 +139,7 @@ test (meets c q) = meetsIn (cellBounds c) (c .expiry .at) q
 test (misses c q) = not (meetsIn (cellBounds c) (c .expiry .at) q)
 test (meetsFrom c q s) =
     both (meetsIn (cellBounds c) (c .expiry .at) q) (both (sameEnds (meetingOf (cellBounds c) q) s) (livesOn (c .expiry .at) s))
-test (missesApart c q x y) =
+test (missesThough c q x y) =
     both (not (meetsIn (cellBounds c) (c .expiry .at) q))
     (both (insideTest q (q .x) (getD (cellBounds c) 0 []) x) (insideTest q (q .y) (getD (cellBounds c) 1 []) y))
 test (keeps x v t z) = sameNumber (kept x v t) z
@@ -154,7 +153,7 @@ test-holds (meetsFrom c q s) h =
     let f = both-split (meetsIn (cellBounds c) (c .expiry .at) q) (both (sameEnds (meetingOf (cellBounds c) q) s) (livesOn (c .expiry .at) s)) h in
     let g = both-split (sameEnds (meetingOf (cellBounds c) q) s) (livesOn (c .expiry .at) s) (f .1) in
     (meets-law (cellBounds c) (c .expiry .at) q .sure (f .0), meets-throughout (cellBounds c) (c .expiry .at) q s (g .0) (g .1))
-test-holds (missesApart c q x y) h =
+test-holds (missesThough c q x y) h =
     let f = both-split (not (meetsIn (cellBounds c) (c .expiry .at) q)) (both (insideTest q (q .x) (getD (cellBounds c) 0 []) x) (insideTest q (q .y) (getD (cellBounds c) 1 []) y)) h in
     let g = both-split (insideTest q (q .x) (getD (cellBounds c) 0 []) x) (insideTest q (q .y) (getD (cellBounds c) 1 []) y) (f .1) in (
       missed (meetsIn (cellBounds c) (c .expiry .at) q) (CellMeets c q) (meets-law (cellBounds c) (c .expiry .at) q) (f .0),

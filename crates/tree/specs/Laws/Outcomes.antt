@@ -7,7 +7,7 @@ use native.Mathlib.Omega.{arith}
 use lib.IntN.{ℤ, pos}
 use lib.ListN.{length-map}
 use lib.Signed.{_≤ℤ_, _<ℤ_, clashℤ}
-use Rattle.whole.specs.Laws.Order.{not-before}
+use Rattle.whole.specs.Laws.Order.{not-before, is-after}
 use Rattle.track.specs.Life.{LivesAt, CellInRange}
 use Rattle.track.specs.Refusals.{_when_, First, number}
 use Rattle.track.specs.Laws.Refusals.{NoneHolds, none-holds, first-then, not-zero, refused-not-zero}
@@ -97,7 +97,7 @@ module _ {w : List ℤ} {r : Report} where
         is-minute = minute-stable (λ n. none .0 (λ h. n (h .minute-in)));
         later = not-before (none .1 .0);
         in-range = subst CellInRange (ap reportCell kept) (kept-in-range reports zero-is);
-        lives = subst (LivesAt (r .minute)) (sym cell-is) (not-before (none .1 .1 .0));
+        lives = subst (LivesAt (r .minute)) (sym cell-is) (is-after (none .1 .1 .0));
       }
 
       pub report-taken : {n : ℕ} {v : List ℤ} → CellSteps w (r .minute) c n v → ReportSteps w r n v

@@ -11,7 +11,6 @@ use lib.ListN.{length, length-map}
 use lib.Signed.{clashℤ, ltZ-yes}
 use Rattle.whole.specs.Lists.{_∈_, _⊆_, put-if, keep, NoRepeat, no-repeat-none, no-repeat-cons}
 use Rattle.whole.specs.Laws.Lists.{keep-in, in-keep, no-repeat-head, no-repeat-tail, no-repeat-fits}
-use Rattle.whole.specs.Laws.Order.{≤ℤ-or-<ℤ}
 use Rattle.track.specs.Life.{identifier, LivesAt}
 use Rattle.track.specs.declared.cell.Cell.{Cell}
 use Rattle.node.specs.Entry.{Entry, cellOf}
@@ -22,7 +21,7 @@ use Rattle.tree_laws.specs.Laws.Weights.{sum-none, sum-cons}
 use Rattle.tree_laws.specs.Laws.Leaf.{leaf-in-range}
 use Rattle.tree.specs.Inner.Holding.{leaves}
 use Rattle.tree_laws.specs.Inner.Goes.{Goes}
-use Rattle.tree_laws.specs.Laws.Goes.{decGoes}
+use Rattle.tree_laws.specs.Laws.Goes.{living-stays, staying-lives, decGoes}
 use Rattle.tree.specs.Inner.Staying.{oneUnless, stays}
 use Rattle.tree.specs.Laws.Staying.{goes-none, stays-one, none-goes, one-stays, stays-most, few-stay}
 use Rattle.tree.specs.Steps.{Stays, IsThere, NoRoom}
@@ -90,9 +89,6 @@ sum-less φ ψ {l = e ∷ l} each (List·Memᴰ·tail m) less =
     omega (arith, each e (List·Memᴰ·head refl), sum-less φ ψ (λ y n. each y (List·Memᴰ·tail n)) m less, sum-cons φ e l, sum-cons ψ e l)
 
 -- ---- of a sound table
-lives : {minute id : ℤ} (c : Cell) → (Goes minute id c → ⊥) → LivesAt minute c
-lives {minute} c stay = ⊎-elim (λ h. h) (λ over. absurd (stay (inl over))) (≤ℤ-or-<ℤ minute (c .expiry .at))
-
 module _ {w : List ℤ} (s : Sound w) (minute id : ℤ) where
   keepers : List Entry
   keepers = keep (stayTest minute id) (leaves w)
@@ -111,7 +107,7 @@ module _ {w : List ℤ} (s : Sound w) (minute id : ℤ) where
           let d = Memᴰ·of-map cellOf (keep (stayTest minute id) (leaves w)) m in
           let k = keep-in (stayTest minute id) (leaves w) (d .1) in
           let stay : Goes minute id c → ⊥ = rw (d .2) at (no-true (decGoes minute id (cellOf (d .0))) (k .1)) in
-          record { is-held = rw (← d .2) (Memᴰ·map cellOf (k .0)); lives = lives c stay; other = λ e. stay (inr e) }
+          record { is-held = rw (← d .2) (Memᴰ·map cellOf (k .0)); lives = staying-lives c stay; other = λ e. stay (inr e) }
 
   pub more-room : manyStay w minute id < capacity w → NoRoom w minute id → ⊥
   unfolding keepers
@@ -121,7 +117,7 @@ module _ {w : List ℤ} (s : Sound w) (minute id : ℤ) where
       inside c m =
           let t = n .each c m in
           let d = Memᴰ·of-map cellOf (leaves w) (t .is-held) in
-          let stay : Goes minute id (cellOf (d .0)) → ⊥ = λ g. ⊎-elim (λ over. clashℤ over (t .lives)) (t .other) (rw (d .2) at g) in
+          let stay : Goes minute id (cellOf (d .0)) → ⊥ = λ g. living-stays c (t .lives) (t .other) (rw (d .2) at g) in
           rw (← d .2) (Memᴰ·map cellOf (in-keep (stayTest minute id) (d .1) (true-no (decGoes minute id (cellOf (d .0))) stay)))
 
   -- no cell has the identifier 0, so against it all that live stay
@@ -149,7 +145,7 @@ module _ {w : List ℤ} (s : Sound w) (minute id : ℤ) where
       record {
         cell = cellOf x;
         is-held = Memᴰ·map cellOf (d .1);
-        lives = lives (cellOf x) stay;
+        lives = staying-lives (cellOf x) stay;
         has-id = ⊎-elim (λ over. absurd (stay (inl over))) (λ e. e) g;
       }
 
@@ -158,5 +154,5 @@ module _ {w : List ℤ} (s : Sound w) (minute id : ℤ) where
       let d = Memᴰ·of-map cellOf (leaves w) (t .is-held) in
       let x = d .0 in
       let gone : Goes minute id (cellOf x) = subst (Goes minute id) (sym (d .2)) (inr (t .has-id)) in
-      let zero : Goes minute (pos 0) (cellOf x) → ⊥ = λ g. ⊎-elim (λ over. clashℤ over (subst (LivesAt minute) (sym (d .2)) (t .lives))) (not-zero x (d .1)) g in
+      let zero : Goes minute (pos 0) (cellOf x) → ⊥ = living-stays (cellOf x) (subst (LivesAt minute) (sym (d .2)) (t .lives)) (not-zero x (d .1)) in
       omega (arith, sum-less (stays minute id) (stays minute (pos 0)) no-fewer (d .1) (omega (arith, goes-none minute id x gone, stays-one minute (pos 0) x zero)))

@@ -6,10 +6,9 @@ use Prim.Native.Nat.{_+_, _≤_, _<_}
 use native.Mathlib.Omega.{arith}
 use lib.IntN.{ℤ, ℤ-discrete}
 use lib.ListN.{length, drop, length-append, length-map}
-use lib.Signed.{_≤ℤ_, clashℤ}
+use lib.Signed.{_≤ℤ_}
 use Rattle.whole.specs.Lists.{_∈_, NoRepeat, no-repeat-cons}
 use Rattle.whole.specs.Laws.Lists.{no-repeat-right}
-use Rattle.whole.specs.Laws.Order.{≤ℤ-or-<ℤ}
 use Rattle.words.specs.Words.{natOf}
 use Rattle.track.specs.Numbers.{IsMinute}
 use Rattle.track.specs.Life.{identifier, LivesAt}
@@ -31,6 +30,7 @@ use Rattle.tree.specs.Inner.Holding.{leaves, Holding, RenewsAll, Stands}
 use Rattle.tree.specs.Laws.Holding.{stands-then, stands-capacity, stands-ample, headed-stands}
 use Rattle.tree.specs.Inner.PutCell.{PutCell}
 use Rattle.tree_laws.specs.Inner.Goes.{Goes}
+use Rattle.tree_laws.specs.Laws.Goes.{living-stays, staying-lives}
 use Rattle.tree.specs.Inner.Clear.{Cleared}
 use Rattle.tree.specs.Inner.Staying.{stays}
 use Rattle.tree.specs.Laws.Staying.{goes-none, stays-one}
@@ -121,14 +121,14 @@ module _ {w v : List ℤ} {minute id : ℤ} (s : Sound w) (c : Cleared w minute 
   pub left-stays : (x : Entry) → x ∈ leaves v → Stays w minute id (cellOf x)
   left-stays x m = record {
     is-held = Memᴰ·map cellOf (same-entries (same-sym (c .clearing .parted)) x (Memᴰ·append-right gone m));
-    lives = ⊎-elim (λ h. h) (λ over. absurd (c .all-stay x m (inl over))) (≤ℤ-or-<ℤ minute (cellOf x .expiry .at));
+    lives = staying-lives (cellOf x) (c .all-stay x m);
     other = λ e. c .all-stay x m (inr e);
   }
 
   pub stays-left : (d : Cell) → Stays w minute id d → d ∈ map cellOf (leaves v)
   stays-left d t =
       let f = Memᴰ·of-map cellOf (leaves w) (t .is-held) in
-      let stay : Goes minute id (cellOf (f .0)) → ⊥ = λ g. ⊎-elim (λ over. clashℤ over (t .lives)) (t .other) (subst (Goes minute id) (f .2) g) in
+      let stay : Goes minute id (cellOf (f .0)) → ⊥ = λ g. living-stays d (t .lives) (t .other) (subst (Goes minute id) (f .2) g) in
       subst (λ (y : Cell). y ∈ map cellOf (leaves v)) (f .2)
       (⊎-elim (λ n. absurd (stay (c .clearing .all-go (f .0) n))) (λ n. Memᴰ·map cellOf n) (List·Memᴰ·append-cases gone (same-entries (c .clearing .parted) (f .0) (f .1))))
 

@@ -6,6 +6,7 @@ use lib.IntN.{ℤ}
 use lib.Signed.{_≤ℤ_}
 use Rattle.whole.specs.Lists.{_∈_}
 use Rattle.whole.specs.Laws.Order.{not-before}
+use Rattle.track.specs.Life.{LivesAt}
 use Rattle.track.specs.Laws.Refusals.{none-holds, not-zero}
 use Rattle.track.specs.declared.cell.Cell.{Cell}
 use Rattle.track.specs.declared.report.Report.{Report}
@@ -23,3 +24,6 @@ drop-late {w} {id} {minute} {n} s e =
 
 pub held-live : {w w′ : List ℤ} {minute : ℤ} {Left : Cell → Type 0} → Step w w′ minute Left → (c : Cell) → c ∈ held w′ → Live w′ c
 held-live s c m = s .live c (s .holds c m)
+
+pub step-leaves-what-lives : {w w′ : List ℤ} {minute : ℤ} {Left : Cell → Type 0} → Step w w′ minute Left → (c : Cell) → c ∈ held w′ → LivesAt minute c
+step-leaves-what-lives s c m = rw (s .clock-is) at (held-live s c m .in-life)

@@ -51,6 +51,12 @@ pub <ℤ-trans : {a b c : ℤ} → a <ℤ b → b <ℤ c → a <ℤ c
     all : (a b c : ℤ) → a <ℤ b → b <ℤ c → a <ℤ c
     all = all3 _ λ _ _ _ _ _ _. simp difs (omega arith)
 
+pub ≤ℤ-<ℤ-trans : {a b c : ℤ} → a ≤ℤ b → b <ℤ c → a <ℤ c
+≤ℤ-<ℤ-trans {a} {b} {c} = all a b c
+  where
+    all : (a b c : ℤ) → a ≤ℤ b → b <ℤ c → a <ℤ c
+    all = all3 _ λ _ _ _ _ _ _. simp difs (omega arith)
+
 pub ≤ℤ-antisym : (a b : ℤ) → a ≤ℤ b → b ≤ℤ a → a ≡ b
 ≤ℤ-antisym = all2 _ λ _ _ _ _. simp difs (omega arith)
 
@@ -119,7 +125,13 @@ pub ≤ℤ-or-<ℤ : (a b : ℤ) → (a ≤ℤ b) ⊎ (b <ℤ a)
 pub not-before : {a b : ℤ} → (a <ℤ b → ⊥) → b ≤ℤ a
 not-before {a} {b} h = ⊎-elim (λ le. le) (λ lt. absurd (h lt)) (≤ℤ-or-<ℤ b a)
 
+pub is-after : {a b : ℤ} → (a ≤ℤ b → ⊥) → b <ℤ a
+is-after {a} {b} h = ⊎-elim (λ le. absurd (h le)) (λ lt. lt) (≤ℤ-or-<ℤ a b)
+
 -- ---- a positive factor is taken off
+pub positive : {z : ℤ} → pos 1 ≤ℤ z → pos 0 ≤ℤ z
+positive h = ≤ℤ-trans (leZ-yes tt) h
+
 off : (d x : ℤ) → pos 1 ≤ℤ d → x <ℤ pos 0 → pos 0 ≤ℤ (d *ℤ x) → ⊥
 off = all2 _ λ _ _ _ _. simp difs (λ h k l. omega (arith, cross h k))
 

@@ -6,7 +6,7 @@ use lib.IntN.{ℤ, pos, _-ℤ_, _*ℤ_}
 use lib.ListN.{length, drop}
 use lib.Signed.{_<ℤ_, quotZ}
 use Rattle.track.specs.Numbers.{IsMinute}
-use Rattle.track.specs.Life.{CellInRange}
+use Rattle.track.specs.Life.{LivesAt, CellInRange}
 use Rattle.track.specs.declared.cell.Cell.{Cell}
 use Rattle.decimal.specs.Inner.DigitRuns.{Stops}
 use Rattle.wkt.specs.TrackLine.{PointText, TrackForm}
@@ -68,12 +68,12 @@ throughPoints id first last =
     let vy = velocityOf (first .y) (last .y) minutes in
     record { id = id; x = keptOf (first .x) vx (first .minute); vx = vx; y = keptOf (first .y) vy (first .minute); vy = vy; expiry = record { at = last .minute } }
 
--- a cell in range that is in life after the first minute, and the only one that the points can give
+-- a cell in range that lives at the first minute, and the only one that the points can give
 pub record OnlyThrough (id : ℤ) (first last : Point) (c : Cell) : Type 0 where
   pub in-range : CellInRange c
   pub identifier-is : c .id ≡ id
   pub minute-in : IsMinute (first .minute)
-  pub in-order : first .minute <ℤ c .expiry .at
+  pub lives : LivesAt (first .minute) c
   pub only : (d : Cell) → GivesCell id first last d → c ≡ d
 
 abbrev pub CellThrough : ℤ → Point → Point → TrackRead → Type 0

@@ -1,6 +1,7 @@
--- Bytes held to the definitions: the line that the first cell of the manual's example gives at minute 10, when it is reported, and in its last minute, 40.
+-- Bytes held to the definitions: the line that the first cell of the manual's example gives at minute 10, when it is reported; and the one point that it would be at
+-- its expiry, at which it does not live.
 use mathlib.Core.Path.{_≡_, refl, ap}
-use mathlib.Core.List.{List, [], _∷_}
+use mathlib.Core.List.{[], _∷_}
 use Prim.Native.Nat.{ℕ}
 use native.Mathlib.Omega.{arith}
 use lib.IntN.{ℤ, pos, negℤ, natAbs}
@@ -10,7 +11,7 @@ use Rattle.decimal.specs.Decimal.{one-digit, and-digit, SignedDecimal, without-
 use Rattle.wkt.specs.Metres.{standsAt}
 use Rattle.wkt.specs.TrackLine.{PointText, LineOf, at-one-point, from-to}
 
--- reported at (100, 200) with velocity (5, -3) at minute 10, until minute 40
+-- reported at (100, 200) with velocity (5, -3) at minute 10, with expiry 40
 abbrev cell7 : Cell
 cell7 = keptCell (reportFrom (pos 7) (pos 100) (pos 200) (pos 5) (negℤ (pos 3)) (pos 10) (pos 40))
 

@@ -1,5 +1,5 @@
 -- A law for each way through the code that reads a line: its numbers, its points, the cell through them.
-use mathlib.Core.Path.{_≡_, refl, sym, ap, _∙_, subst}
+use mathlib.Core.Path.{_≡_, sym, ap, _∙_, subst}
 use mathlib.Core.List.{List, _∷_, _++_}
 use Prim.Native.Nat.{ℕ, suc, _+_, _/_, _^_, _<_, _≤_}
 use native.Mathlib.Omega.{arith}
@@ -7,7 +7,7 @@ use lib.Dec.{leb→le}
 use lib.IntN.{ℤ, pos, negsuc, natAbs, _-ℤ_}
 use lib.ListN.{drop}
 use lib.Seq.{drop-drop}
-use lib.Signed.{_≤ℤ_, _<ℤ_, quotZ}
+use lib.Signed.{_≤ℤ_, _<ℤ_}
 use mir.Syntax.{w32}
 use mir.Val.{ofZ}
 use Rattle.whole.specs.Within.{Within}
@@ -157,7 +157,7 @@ module _ {id : ℤ} {first last : Point} where
       in-range = h;
       identifier-is = ap (λ (d : Cell). d .id) is;
       minute-in = order .first-in;
-      in-order = subst (λ (t : ℤ). first .minute <ℤ t) (sym (ap (λ (d : Cell). d .expiry .at) is)) (order .before);
+      lives = subst (λ (t : ℤ). first .minute <ℤ t) (sym (ap (λ (d : Cell). d .expiry .at) is)) (order .before);
       only = λ d g. is ∙ gives-only g;
     }
 
@@ -196,6 +196,6 @@ module _ {id : ℤ} {line : List ℕ} where
 
       pub read-same : line ≡ own → ReadsTrack id line (Read c)
       read-same e =
-          let back = track-back (through .in-range) (through .minute-in) (through .in-order) (subst (LineOf (first .minute) c) (sym e) is) in
+          let back = track-back (through .in-range) (through .minute-in) (through .lives) (subst (LineOf (first .minute) c) (sym e) is) in
           let read = subst (λ (k : ℤ). ReadsAs k line c) (through .identifier-is) back in
           read-accepted read

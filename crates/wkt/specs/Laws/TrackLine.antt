@@ -1,12 +1,13 @@
 -- A cell has one line, and it has one; how long that is at most. And a form has one pair of points.
-use mathlib.Core.Path.{_≡_, refl, sym, ap, _∙_}
+use mathlib.Core.Path.{_≡_, refl, sym, ap, _∙_, subst}
 use mathlib.Core.List.{List, _∷_, _++_, append-assoc}
 use Prim.Native.Nat.{ℕ, _+_, _≤_}
 use native.Mathlib.Omega.{arith}
 use lib.IntN.{ℤ, ℤ-discrete}
 use lib.ListN.{length, length-append}
+use lib.Signed.{_<ℤ_, <ℤ-irrefl}
 use Rattle.track.specs.Numbers.{IsMinute}
-use Rattle.track.specs.Life.{CellInRange}
+use Rattle.track.specs.Life.{LivesAt, CellInRange}
 use Rattle.track.specs.declared.cell.Cell.{Cell}
 use Rattle.decimal.specs.Decimal.{SignedDecimal}
 use Rattle.decimal.specs.Inner.DigitRuns.{Stops}
@@ -41,6 +42,17 @@ one-line (at-one-point e g) (at-one-point f h) = one-point-form g h
 one-line (at-one-point e g) (from-to n h) = absurd (n e)
 one-line (from-to n g) (at-one-point e h) = absurd (n e)
 one-line (from-to n g) (from-to m h) = one-track-form g h
+
+-- ---- of a cell that lives at the clock it is a LINESTRING
+not-at-expiry : (clock : ℤ) (c : Cell) → LivesAt clock c → c .expiry .at ≡ clock → ⊥
+not-at-expiry clock c lives e = <ℤ-irrefl (subst (λ (t : ℤ). clock <ℤ t) e lives)
+
+pub live-line : {clock : ℤ} {c : Cell} {line : List ℕ} → LivesAt clock c → LineOf clock c line → TrackForm (standsAt c clock) (standsAt c (c .expiry .at)) line
+live-line {clock} {c} lives (at-one-point e form) = absurd (not-at-expiry clock c lives e)
+live-line lives (from-to n form) = form
+
+pub line-of-live : {clock : ℤ} {c : Cell} {line : List ℕ} → LivesAt clock c → TrackForm (standsAt c clock) (standsAt c (c .expiry .at)) line → LineOf clock c line
+line-of-live {clock} {c} lives form = from-to (not-at-expiry clock c lives) form
 
 -- ---- there is one
 point-exists : (p : Point) → (s : List ℕ) × PointText p s

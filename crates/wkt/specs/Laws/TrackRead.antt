@@ -5,18 +5,18 @@ use mathlib.Core.List.{List}
 use Prim.Native.Nat.{ℕ}
 use native.Mathlib.Omega.{arith}
 use lib.IntN.{ℤ, pos, _+ℤ_, _-ℤ_, _*ℤ_, *ℤ-comm}
-use lib.Signed.{_≤ℤ_, _<ℤ_, quotZ, <ℤ-irrefl, leZ-yes}
+use lib.Signed.{_≤ℤ_, _<ℤ_, quotZ, leZ-yes}
 use Rattle.whole.specs.Laws.Quotients.{quot-exact}
 use Rattle.whole.specs.Laws.Difference.{difs, all2, all3, all4}
 use Rattle.track.specs.Numbers.{IsMinute, IsVelocity, IsKept}
-use Rattle.track.specs.Life.{CellInRange}
+use Rattle.track.specs.Life.{LivesAt, CellInRange}
 use Rattle.track.specs.Laws.Refusals.{not-zero, first-fixed, refused-not-zero, number-fixes}
 use Rattle.track.specs.declared.cell.Cell.{Cell}
 use Rattle.track.specs.declared.refusal.Refusal.the-variants.{NoTrack}
 use Rattle.wkt.specs.Metres.{metres, standsAt}
-use Rattle.wkt.specs.TrackLine.{PointForm, TrackForm, LineOf, at-one-point, from-to}
+use Rattle.wkt.specs.TrackLine.{PointForm, TrackForm, LineOf}
 use Rattle.wkt.specs.TrackRead.{AxisGives, GivesCell, ReadsAs, trackReasons, trackNumber, trackCell, ReadsTrack}
-use Rattle.wkt.specs.Laws.TrackLine.{form-fixed, same-point}
+use Rattle.wkt.specs.Laws.TrackLine.{live-line, line-of-live, form-fixed, same-point}
 use Rattle.wkt.specs.Inner.TrackFound.{unitsOf, velocityOf, keptOf, throughPoints}
 use Rattle.wkt.specs.declared.point.Point.{Point}
 use Rattle.wkt.specs.declared.reading.TrackRead.{TrackRead}
@@ -117,19 +117,18 @@ module _ {id : ℤ} {first last : Point} {c : Cell} (g : GivesCell id first last
       all e0 e1 e2 e3 e4 e5 i = record { id = e0 i; x = e1 i; vx = e2 i; y = e3 i; vy = e4 i; expiry = record { at = e5 i } }
 
 -- ---- there and back
--- the line of a cell in range that is not in its last minute, read with its identifier, gives the cell
-pub track-back : {clock : ℤ} {c : Cell} {line : List ℕ} → CellInRange c → IsMinute clock → clock <ℤ c .expiry .at → LineOf clock c line → ReadsAs (c .id) line c
-track-back {clock} {c} h m before (at-one-point e form) = absurd (<ℤ-irrefl (subst (λ (t : ℤ). clock <ℤ t) e before))
-track-back {clock} {c} h m before (from-to n form) = record {
+-- the line of a cell in range that lives at the clock, read with its identifier, gives the cell
+pub track-back : {clock : ℤ} {c : Cell} {line : List ℕ} → CellInRange c → IsMinute clock → LivesAt clock c → LineOf clock c line → ReadsAs (c .id) line c
+track-back {clock} {c} h m lives line = record {
   first = standsAt c clock;
   last = standsAt c (c .expiry .at);
-  form = form;
+  form = live-line lives line;
   gives = record {
     identifier-is = refl;
     expiry-is = refl;
     on-x = axis-stands (c .x) (c .vx) clock (c .expiry .at) (h .x-in) (h .vx-in);
     on-y = axis-stands (c .y) (c .vy) clock (c .expiry .at) (h .y-in) (h .vy-in);
-    in-order = before;
+    in-order = lives;
     identifier-in = h .identifier;
     first-minute-in = m;
     last-minute-in = h .expiry-in;
@@ -140,7 +139,7 @@ track-back {clock} {c} h m before (from-to n form) = record {
 pub line-back : {id : ℤ} {line : List ℕ} {c : Cell} (r : ReadsAs id line c) → LineOf (r .first .minute) c line
 line-back {line} {c} r =
     let g = r .gives in
-    from-to (λ e. <ℤ-irrefl (subst (λ (t : ℤ). r .first .minute <ℤ t) (sym (g .expiry-is) ∙ e) (g .in-order)))
+    line-of-live (subst (λ (t : ℤ). r .first .minute <ℤ t) (sym (g .expiry-is)) (g .in-order))
     (subst (λ (p : Point). TrackForm (standsAt c (r .first .minute)) p line) (gives-last g) (subst (λ (p : Point). TrackForm p (r .last) line) (gives-first g) (r .form)))
 
 -- a line of one point gives none

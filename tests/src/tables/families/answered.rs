@@ -1,14 +1,15 @@
 //! Queries on sound tables: every number, every list and every count of opened nodes.
 
 use super::Family;
-use crate::question::{Kind, MINUTE};
+use crate::meeting::Instant;
+use crate::question::{Kind, Query, MINUTE};
 use crate::random::Random;
 use crate::refusal::{query_refusal, BACKWARD, BEFORE_CLOCK, OUT_OF_RANGE, SHORT_LIST};
 use crate::tables::builder::{draw, Table};
 use crate::tables::library::{Lent, Library};
 use crate::tables::queries::{accepted, spoiled, KINDS};
 use crate::tables::reading;
-use crate::tables::scan::{body, truth_if_sound, Asked, Truth};
+use crate::tables::scan::{body, shut_at_the_start, truth_if_sound, Asked, Truth};
 use crate::tables::worlds::Cell;
 use crate::tally::Tally;
 
@@ -32,7 +33,7 @@ pub fn run(library: &Library, tally: &mut Tally) {
 fn capacity_agrees(library: &Library, capacity: i32, kind: Kind, random: &mut Random) -> bool {
     let mut family = Family::named(format!("{kind:?} in tables of {capacity}"));
     // Small tables cost little.
-    let tables = if capacity <= 16 { 4 * TABLES } else { TABLES };
+    let tables = if capacity <= 40 { 4 * TABLES } else { TABLES };
     for _ in 0..tables {
         let table = draw(random, capacity);
         let mut lent = Lent::of(random, &table.words);
@@ -42,12 +43,16 @@ fn capacity_agrees(library: &Library, capacity: i32, kind: Kind, random: &mut Ra
         }
     }
     let mut meant = vec!["no hits", "hits", "refused by 10", "expiry alone kept a cell out"];
+    meant.extend([EXPIRED_AT_START, ENDS_AT_EXPIRY, JUST_BEFORE_EXPIRY, ONE_PART_BEFORE_EXPIRY]);
+    if kind == Kind::Window {
+        meant.push(TIMESLICE_AT_EXPIRY);
+    }
     if capacity > 1 {
         meant.push("several hits");
     }
     if capacity >= 9 {
         meant.extend(["all nodes opened", "some nodes opened", "the root alone opened"]);
-        meant.push("opened in vain");
+        meant.extend(["opened in vain", SHUT_AT_START]);
     }
     family.holds(&meant, 40)
 }
@@ -88,10 +93,11 @@ fn describe(table: &Table, asked: &Asked, truth: &Truth, family: &mut Family) {
             if ids.len() > 1 {
                 family.count("several hits");
             }
-            let for_ever = |cell: &&Cell| body(&Cell { expiry: MINUTE, ..**cell }).meets(&asked.query);
+            let for_ever = |cell: &&Cell| body(&Cell { expiry: MINUTE + 1, ..**cell }).meets(&asked.query);
             if table.cells.iter().filter(for_ever).count() > ids.len() {
                 family.count("expiry alone kept a cell out");
             }
+            describe_ends(table, &asked.query, family);
             let nodes = reading::inners(&table.words).len() as i32 + 1;
             if nodes > 1 {
                 family.count(match *opened {
@@ -104,6 +110,49 @@ fn describe(table: &Table, asked: &Asked, truth: &Truth, family: &mut Family) {
                 }
             }
         }
+    }
+}
+
+const TIMESLICE_AT_EXPIRY: &str = "no hit by a timeslice at the expiry";
+const EXPIRED_AT_START: &str = "no hit where the start is the expiry";
+const ENDS_AT_EXPIRY: &str = "no hit where the end is the expiry, and the touch too";
+const JUST_BEFORE_EXPIRY: &str = "hit at a fraction in the minute before the expiry";
+const ONE_PART_BEFORE_EXPIRY: &str = "hit 1/q before the expiry";
+const SHUT_AT_START: &str = "an entry shut, as the start is its greatest expiry";
+
+/// Cells that touch the rectangle at the end of their lives, and entries likewise; each kind once for a
+/// query.
+fn describe_ends(table: &Table, query: &Query, family: &mut Family) {
+    let mut said: Vec<&str> = table.cells.iter().filter_map(|cell| end_of(cell, query)).collect();
+    said.sort_unstable();
+    said.dedup();
+    said.into_iter().for_each(|what| family.count(what));
+    if shut_at_the_start(&table.words, reading::root(&table.words), query) {
+        family.count(SHUT_AT_START);
+    }
+}
+
+fn end_of(cell: &Cell, query: &Query) -> Option<&'static str> {
+    let (cell, expiry) = (body(cell), cell.expiry);
+    let at = Instant::whole(expiry);
+    if !at.is_in(query) {
+        return None;
+    }
+    if let Some(Instant { p, q }) = cell.earliest(query) {
+        // So many parts in q before the expiry.
+        let left = i128::from(expiry) * q - p;
+        return match left {
+            _ if p % q == 0 || left > q => None,
+            _ if q % left == 0 => Some(ONE_PART_BEFORE_EXPIRY),
+            _ => Some(JUST_BEFORE_EXPIRY),
+        };
+    }
+    match (query.start, query.end) {
+        _ if !cell.touches_at(query, at) => None,
+        (start, end) if start == end => Some(TIMESLICE_AT_EXPIRY),
+        (start, _) if start == expiry => Some(EXPIRED_AT_START),
+        (_, end) if end == expiry => Some(ENDS_AT_EXPIRY),
+        _ => None,
     }
 }
 

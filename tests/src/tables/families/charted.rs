@@ -59,12 +59,17 @@ fn sound(library: &Library) -> bool {
         "room for the first lines only",
         "moving",
         "still",
-        "in their last minute",
         "read back",
-        "not read back, as a point",
+        EXPIRE_NOW,
+        EXPIRE_NEXT,
+        AT_LAST,
     ];
-    family.holds(&meant, 20)
+    family.holds(&meant, 40)
 }
+
+const EXPIRE_NOW: &str = "no line, as the expiry is the clock";
+const EXPIRE_NEXT: &str = "a line of one minute";
+const AT_LAST: &str = "no line at 1,440";
 
 fn count_cells(table: &Table, live: &[Cell], capacity: i32, family: &mut Family) {
     match live.len() {
@@ -77,10 +82,17 @@ fn count_cells(table: &Table, live: &[Cell], capacity: i32, family: &mut Family)
     }
     for cell in live {
         family.count(match cell {
-            _ if cell.expiry == table.clock => "in their last minute",
             Cell { vx: 0, vy: 0, .. } => "still",
             _ => "moving",
         });
+    }
+    for cell in &table.cells {
+        match cell.expiry - table.clock {
+            0 if table.clock == MINUTE => family.count(AT_LAST),
+            0 => family.count(EXPIRE_NOW),
+            1 => family.count(EXPIRE_NEXT),
+            _ => {}
+        }
     }
 }
 
@@ -142,7 +154,8 @@ fn count_length(text: &[u8], length: usize, family: &mut Family) {
     }
 }
 
-/// Every line, as the library writes it, with its cell's identifier.
+/// Every line, as the library writes it, with its cell's identifier: none is a point, and each gives
+/// its cell.
 fn read_back(library: &Library, table: &Table, live: &[Cell], random: &mut Random, family: &mut Family) {
     let mut bytes = vec![0; LONGEST_LINE * live.len()];
     let written = (library.tracks)(&mut table.words.clone(), &mut bytes);
@@ -152,13 +165,12 @@ fn read_back(library: &Library, table: &Table, live: &[Cell], random: &mut Rando
         family.wrong(format!("{} lines for {} live cells", lines.len(), live.len()));
     }
     for (line, cell) in lines.iter().zip(live) {
-        let expected = (cell.expiry != table.clock).then_some(*cell);
-        family.count(match expected {
-            Some(_) => "read back",
-            None => "not read back, as a point",
-        });
-        let difference = tracked::differs(library, &Reading { id: cell.id, line, expected }, random);
-        family.note(difference);
+        family.count("read back");
+        if !line.starts_with(b"LINESTRING M (") {
+            family.wrong(format!("a line that is no LINESTRING: {}", String::from_utf8_lossy(line)));
+        }
+        let reading = Reading { id: cell.id, line, expected: Some(*cell) };
+        family.note(tracked::differs(library, &reading, random));
     }
 }
 

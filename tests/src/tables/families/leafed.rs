@@ -35,13 +35,30 @@ fn sound(library: &Library) -> bool {
         }
         leaf(library, &mut words, &live, &mut random, &mut family);
         for last in drawn_lasts(&mut random, &table) {
+            describe(&table, &live, last, &mut family);
             step(library, &mut words, &live, last, &mut random, &mut family);
         }
         if !words.untouched() {
             family.wrong("table changed");
         }
     }
-    family.holds(&["cell", "none", "all cells of a table"], 200)
+    family.holds(&["cell", "none", "all cells of a table", EXPIRES_NOW, EXPIRES_NEXT, EXPIRES_LAST], 200)
+}
+
+const EXPIRES_NOW: &str = "a cell passed over in the minute of its expiry";
+const EXPIRES_NEXT: &str = "a cell given in the minute before its expiry";
+const EXPIRES_LAST: &str = "none, as the last cell expires in that minute";
+
+/// Whether the step comes to a life that ends at the clock, or a minute after it.
+fn describe(table: &Table, live: &[Cell], last: i32, family: &mut Family) {
+    let next = live.iter().find(|cell| cell.id > last);
+    let before_it = |cell: &&Cell| last < cell.id && next.is_none_or(|next| cell.id < next.id);
+    if table.cells.iter().filter(before_it).any(|cell| cell.expiry == table.clock) {
+        family.count(if next.is_some() { EXPIRES_NOW } else { EXPIRES_LAST });
+    }
+    if next.is_some_and(|next| next.expiry == table.clock + 1) {
+        family.count(EXPIRES_NEXT);
+    }
 }
 
 /// From the opening to the end, by the identifiers that are given.

@@ -1,9 +1,10 @@
 //! Sheets read into any words: sheets of tables, and the same with something changed.
 
 use super::Family;
+use crate::question::MINUTE;
 use crate::random::Random;
-use crate::refusal::{BAD_CAPACITY, SHORT_TABLE};
-use crate::tables::builder::draw;
+use crate::refusal::{BAD_CAPACITY, BAD_RECORD, SHORT_TABLE};
+use crate::tables::builder::{draw, Table};
 use crate::tables::judge;
 use crate::tables::layout::*;
 use crate::tables::library::{Lent, Library, Written};
@@ -13,10 +14,12 @@ use crate::tally::Tally;
 
 const SHEETS: u32 = 3_000;
 const CHANGED: u32 = 30_000;
+const ENDS: u32 = 1_500;
 
 pub fn run(library: &Library, tally: &mut Tally) {
     tally.check(sheets(library));
     tally.check(changed(library));
+    tally.check(ends_of_lives(library));
 }
 
 /// The sheet of a table of its own, and the capacity of that table.
@@ -73,6 +76,54 @@ fn changed(library: &Library) -> bool {
     }
     let meant = ["read", "refused by 2", "refused by 3", "refused by 9", "refused by 11", "refused by 12"];
     family.holds(&meant, 200)
+}
+
+const AT_EXPIRY: &str = "12: an expiry is the clock";
+const BEFORE_EXPIRY: &str = "read: the soonest expiry is the minute after the clock";
+const CELLS_AT_LAST: &str = "12: cells at 1,440";
+const NONE_AT_LAST: &str = "read: no cell at 1,440";
+
+/// Sheets that are right but for a life that ends at their clock, and sheets of which a life ends a
+/// minute later.
+fn ends_of_lives(library: &Library) -> bool {
+    let mut random = Random::seeded(0xb300);
+    let mut family = Family::named("sheets read at the ends of lives");
+    for _ in 0..ENDS {
+        let capacity = random.one_of(&[1, 2, 3, 5, 8, 9, 16, 40, 256]);
+        let table = draw(&mut random, capacity);
+        let (bytes, name) = with_an_end(&mut random, &table);
+        family.count(name);
+        let refused = said(&bytes, capacity).err();
+        if refused != matches!(name, AT_EXPIRY | CELLS_AT_LAST).then_some(BAD_RECORD) {
+            family.wrong(format!("{name}: computed {refused:?}"));
+        }
+        let words = random.rubbish_words(words_for(capacity));
+        read(library, &words, capacity, &bytes, &mut random, &mut family);
+    }
+    family.holds(&[AT_EXPIRY, BEFORE_EXPIRY, CELLS_AT_LAST, NONE_AT_LAST], 40)
+}
+
+/// A sheet of the table's live cells with another clock, or with another expiry of one of them.
+fn with_an_end(random: &mut Random, table: &Table) -> (Vec<u8>, &'static str) {
+    let clock = table.clock;
+    let mut cells = live(&table.cells, clock);
+    let Some(soonest) = cells.iter().map(|cell| cell.expiry).min() else {
+        return (sheet(MINUTE, &[]), NONE_AT_LAST);
+    };
+    let some = random.place(cells.len());
+    match random.between(0, 4) {
+        0 => (sheet(MINUTE, &cells), CELLS_AT_LAST),
+        1 => (sheet(soonest, &cells), AT_EXPIRY),
+        2 => (sheet(soonest - 1, &cells), BEFORE_EXPIRY),
+        3 => {
+            cells[some].expiry = clock;
+            (sheet(clock, &cells), AT_EXPIRY)
+        }
+        _ => {
+            cells[some].expiry = clock + 1;
+            (sheet(clock, &cells), BEFORE_EXPIRY)
+        }
+    }
 }
 
 fn change(random: &mut Random, bytes: &mut Vec<u8>) {

@@ -184,7 +184,7 @@ fn near_limits(library: &Library) -> bool {
 /// The numbers of a line that gives a cell, for others to be put in their places.
 fn some_numbers(random: &mut Random) -> [i32; 6] {
     let (clock, cell) = drawn_cell(random);
-    points(clock, &cell).concat().try_into().expect("two points before expiry")
+    points(clock, &cell).concat().try_into().expect("two points of three numbers")
 }
 
 /// In one place, and in the two of an axis, so that the cell would stand still far away.

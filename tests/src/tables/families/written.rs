@@ -2,6 +2,7 @@
 //! for words that are not sound.
 
 use super::Family;
+use crate::question::MINUTE;
 use crate::random::Random;
 use crate::refusal::{NOT_SOUND, SHORT_BYTES};
 use crate::tables::builder::{draw, Table};
@@ -10,7 +11,7 @@ use crate::tables::library::{Lent, Library, Written};
 use crate::tables::sheet::{live, sheet};
 use crate::tally::Tally;
 
-const TABLES: u32 = 1_000;
+const TABLES: u32 = 1_200;
 const DAMAGED: u32 = 10;
 const TRIES: u32 = 20_000;
 
@@ -38,12 +39,26 @@ fn sound(library: &Library) -> bool {
         if live.len() < table.cells.len() {
             family.count("expired cells");
         }
+        count_ends(&table, &mut family);
         for length in lengths(&mut random, sheet.len()) {
             write(library, &table, &sheet, length, &mut random, &mut family);
         }
     }
+    let ends = family.brought_up(&[EXPIRE_NOW, EXPIRE_NEXT, AT_LAST], 40);
     let meant = ["no live cell", "full", "expired cells", "written", "just enough bytes", "one byte too few"];
-    family.holds(&meant, 20)
+    family.holds(&meant, 20) && ends
+}
+
+const EXPIRE_NOW: &str = "tables with cells that expire at the clock";
+const EXPIRE_NEXT: &str = "tables with cells that expire in the minute after";
+const AT_LAST: &str = "tables with cells at 1,440";
+
+fn count_ends(table: &Table, family: &mut Family) {
+    let expire_at = |minute: i32| table.cells.iter().any(|cell| cell.expiry == minute);
+    let at_last = table.clock == MINUTE && !table.cells.is_empty();
+    let said =
+        [(expire_at(table.clock), EXPIRE_NOW), (expire_at(table.clock + 1), EXPIRE_NEXT), (at_last, AT_LAST)];
+    said.iter().filter(|(is, _)| *is).for_each(|(_, name)| family.count(*name));
 }
 
 fn lengths(random: &mut Random, total: usize) -> Vec<usize> {

@@ -1,11 +1,11 @@
 use mathlib.Core.Path.{_≡_}
-use lib.Signed.{_<ℤ_, leZ, ltZ}
+use lib.Signed.{_<ℤ_, ltZ}
 use mathlib.Core.Bool.{_&&_}
 use mir.Syntax.{w32}
 use mir.Val.{toZ, ofZ}
 use Rattle.whole.specs.Tells.{Tells}
 use Rattle.whole.specs.Laws.Tells.{tells-both, passed-not, failed-not}
-use Rattle.whole.specs.Laws.Order.{leZ-tells, ltZ-tells, leZ-true, leZ-false, <ℤ→≤ℤ}
+use Rattle.whole.specs.Laws.Order.{ltZ-tells, leZ-true, leZ-false, <ℤ→≤ℤ}
 use Rattle.whole.specs.Laws.Within.{back}
 use Rattle.track.specs.Life.{LivesAt}
 use Rattle.leafing.specs.Laws.Search.{extends-passed, extends-first, extends-kept, extends-lower}
@@ -26,9 +26,9 @@ module _ (s : tie.Start) where
   expiry-is : toZ w32 (ofZ w32 (s .args .c .expiry .at)) ≡ s .args .c .expiry .at
   expiry-is = back (record { sfits = s .good .1 .1 .0 .1 .1 .1 .1 .1 .1 .1 .0 .1 .1 .0 .1 })
 
-  told : Tells (leZ (toZ w32 (ofZ w32 (s .args .s .clock))) (toZ w32 (ofZ w32 (s .args .c .expiry .at))) && ltZ (toZ w32 (ofZ w32 (s .args .s .last))) (toZ w32 (ofZ w32 (s .args .c .id))))
+  told : Tells (ltZ (toZ w32 (ofZ w32 (s .args .s .clock))) (toZ w32 (ofZ w32 (s .args .c .expiry .at))) && ltZ (toZ w32 (ofZ w32 (s .args .s .last))) (toZ w32 (ofZ w32 (s .args .c .id))))
       (LivesAt (s .args .s .clock) (s .args .c) × (s .args .s .last <ℤ s .args .c .id))
-  told = simp (clock-is, last-is, id-is, expiry-is) (tells-both leZ-tells ltZ-tells)
+  told = simp (clock-is, last-is, id-is, expiry-is) (tells-both ltZ-tells ltZ-tells)
 
 -- the cell is sought
 sought : (c : tie.Else1) → let a = c .before .before .before .before .before .before .before .before .before .args in LivesAt (a .s .clock) (a .c) × (a .s .last <ℤ a .c .id)

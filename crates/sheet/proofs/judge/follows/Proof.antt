@@ -1,7 +1,7 @@
 use mathlib.Core.Path.{_≡_}
 use mir.Syntax.{w32}
 use mir.Val.{toZ, ofZ}
-use Rattle.whole.specs.Laws.Order.{leZ-tells, ltZ-tells}
+use Rattle.whole.specs.Laws.Order.{ltZ-tells}
 use Rattle.whole.specs.Laws.Within.{back}
 use Rattle.sheet.specs.Laws.Records.{follows-tells}
 use borrow.Author.Needs.{needs}
@@ -18,7 +18,7 @@ module _ (s : tie.Start) where
 returns : tie.Need-returns
 returns c =
     let s = c .before .before .before .before .before in
-    simp (id-is s, expiry-is s, back (s .fits .clock), back (s .fits .last)) (follows-tells (c .cell-in-range .ensures) leZ-tells ltZ-tells)
+    simp (id-is s, expiry-is s, back (s .fits .clock), back (s .fits .last)) (follows-tells (c .cell-in-range .ensures) ltZ-tells ltZ-tells)
 
 pub follows-spec : {M : Type 1} → statement M
 follows-spec = tie.close (tie.spec (λ c κs. search needs) returns)

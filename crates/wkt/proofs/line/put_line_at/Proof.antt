@@ -1,11 +1,10 @@
-use mathlib.Core.Path.{_≡_, sym, _∙_}
+use mathlib.Core.Path.{_≡_, sym}
 use mathlib.Core.List.{List}
 use Prim.Native.Nat.{ℕ}
 use lib.ListN.{take}
 use lib.Seq.{length-take-le}
 use native.Mathlib.Omega.{arith}
 use Rattle.whole.specs.Laws.Within.{back}
-use Rattle.decimal.specs.Inner.PutBytes.{Put}
 use Rattle.decimal.specs.Laws.PutBytes.{put-long, put-as, put-read}
 use Rattle.wkt.specs.TrackLine.{LineOf}
 use borrow.Author.Needs.{needs}
@@ -25,7 +24,7 @@ put-text-requires : tie.Need-put-text-requires
 put-text-requires c κs =
     let s = c .before .before .before .before .before .before in
     let own = own-put (c .before .before .before) in
-    rw (own .2) (s .pre .2 (own .0) (own .1))
+    rw (own .2) (s .pre .3 (own .0) (own .1))
 
 returns : tie.Need-returns
 returns c =

@@ -1,4 +1,4 @@
-use mathlib.Core.Path.{_≡_, sym, ap, _∙_, subst}
+use mathlib.Core.Path.{_≡_, sym, _∙_, subst}
 use mathlib.Core.List.{List}
 use Prim.Native.Nat.{ℕ}
 use lib.ListN.{take}
@@ -41,7 +41,7 @@ returns-2 c =
 put-line-requires : tie.Need-put-line-requires
 put-line-requires c κs =
     let t = through (c .before .before .before) in
-    (t .in-range, rw (read32 tt (minute-in (t .minute-in))) (t .minute-in), search needs)
+    (t .in-range, rw (read32 tt (minute-in (t .minute-in))) (t .minute-in), rw (read32 tt (minute-in (t .minute-in))) (t .lives), search needs)
 
 own-line : (c : tie.After-put-line) → (t : List ℕ) × LineOf (c .before .before .before .before .before .before .before .before .first .given .0 .0 .minute) (c .before .before .before .before .c .given .0 .0) t × (take (c .put-line .result) (c .put-line .last .0) ≡ t)
 own-line c =

@@ -5,7 +5,7 @@ use mir.Syntax.{w32}
 use mir.Val.{toZ, ofZ}
 use borrow.Author.Needs.{needs}
 use Rattle.whole.specs.Laws.Within.{back, word-back, read32}
-use Rattle.whole.specs.Laws.Order.{ltZ-true, ltZ-false}
+use Rattle.whole.specs.Laws.Order.{ltZ-true, ltZ-false, leZ-true, leZ-false}
 use Rattle.whole.specs.Laws.Tells.{passed-not, failed-not}
 use Rattle.track.specs.Numbers.{kept}
 use Rattle.track.specs.Laws.Numbers.{kept-in}
@@ -59,7 +59,7 @@ returns-2 c = record {
 
 returns-3 : tie.Need-returns-3
 returns-3 c = record {
-  refusal = inr (λ f. f (in-range (c .before .before)), inr (λ e. clashℤ e (in-time (c .before)), inl (ltZ-true (simp reads at (c .if3 .taken)), refl)));
+  refusal = inr (λ f. f (in-range (c .before .before)), inr (λ e. clashℤ e (in-time (c .before)), inl (leZ-true (simp reads at (c .if3 .taken)), refl)));
   cell = not-zero 5;
 }
 
@@ -85,10 +85,10 @@ returns-4 c =
     let y = c .before in
     let x = y .before .before .before in
     let last = x .before .before .before in
-    let ordered = ltZ-false (simp reads at (last .if3 .left)) in
+    let ordered = leZ-false (simp reads at (last .if3 .left)) in
     simp (reads, kept-x x, kept-y y)
     (record {
-      refusal = inr (λ f. f (in-range (last .before .before)), inr (λ e. clashℤ e (in-time (last .before)), inr (λ e. clashℤ e ordered, refl)));
+      refusal = inr (λ f. f (in-range (last .before .before)), inr (λ e. clashℤ e (in-time (last .before)), inr (λ e. clashℤ ordered e, refl)));
       cell = λ e. refl;
     })
 
