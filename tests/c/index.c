@@ -1,8 +1,8 @@
 /*
  * Makes fresh tables, reports to them and drops from them, asks them, writes and
  * reads their sheets, leafs through them, writes their tracks and reads lines, from
- * C: every number that these calls give. All that is lent is lent in blocks of just
- * its size.
+ * C: every number that these calls give; and asks whether cells meet moving queries.
+ * All that is lent is lent in blocks of just its size.
  * Prints a line for each check that fails, and last the counts.
  */
 #include "lent.h"
@@ -568,6 +568,35 @@ static void check_window(const char *name, const int32_t *table, size_t words, c
     give_back(list);
 }
 
+/* A cell and a moving query by numbers: those of a report; start, end; the edges at either. */
+static const struct {
+    const char *name;
+    int32_t n[17], answer;
+} chases[] = {
+    {"P5", {1, 1, 0, 2, 0, 0, 40, 0, 10, 0, 2, 0, 0, 20, 22, 0, 0}, 1},
+    {"P6", {1, 3, 0, 2, 0, 0, 40, 0, 10, 0, 2, 0, 0, 20, 22, 0, 0}, 0},
+    {"P7", {1, 3, 0, 1, 0, 0, 40, 0, 10, 0, 2, 0, 0, 20, 22, 0, 0}, 1},
+    {"P7, expired as it comes", {1, 3, 0, 1, 0, 0, 1, 0, 10, 0, 2, 0, 0, 20, 22, 0, 0}, 0},
+    {"P7, expired a minute later", {1, 3, 0, 1, 0, 0, 2, 0, 10, 0, 2, 0, 0, 20, 22, 0, 0}, 1},
+    {"P7 from its expiry on", {1, 3, 0, 1, 0, 0, 2, 2, 3, 4, 6, 0, 0, 6, 8, 0, 0}, 0},
+    {"6: as reported", {1, 1, 0, 2, 0, 0, 0, 0, 10, 0, 2, 0, 0, 20, 22, 0, 0}, 6},
+    {"6: before the report", {1, 1, 0, 2, 0, 5, 4, 5, 10, 0, 2, 0, 0, 20, 22, 0, 0}, 6},
+    {"6 before 7: as reported", {1, 1, 0, 2, 0, 5, 5, 5, 5, 0, 2, 0, 0, 20, 22, 0, 0}, 6},
+    {"5 before 6: as reported", {1, 1, 0, 2, 0, 5, 5, 4, 10, 0, 2, 0, 0, 20, 22, 0, 0}, 5},
+    {"4 before 6: as reported", {1, 1, 0, 2, 0, 5, 5, 5, 10, 0, 2, 0, 0, 20, 100001, 0, 0}, 4},
+    {"7: start equals end", {1, 1, 0, 2, 0, 5, 6, 5, 5, 0, 2, 0, 0, 20, 22, 0, 0}, 7},
+};
+
+static void check_chases(void)
+{
+    for (size_t i = 0; i < COUNT(chases); i++) {
+        const int32_t *n = chases[i].n;
+        check(chases[i].name,
+              bradawlet_meets_moving(n[0], n[1], n[2], n[3], n[4], n[5], n[6], n[7], n[8], n[9], n[10], n[11],
+                                     n[12], n[13], n[14], n[15], n[16]) == chases[i].answer);
+    }
+}
+
 /* A whole run of the desk program, by calls. */
 static void check_desk_run(void)
 {
@@ -789,5 +818,6 @@ int main(void)
         check_full();
         check_last_minute();
     }
+    check_chases();
     return verdict();
 }
