@@ -7,7 +7,7 @@ ghost use Rattle.decimal.specs.Inner.DigitRuns.{IsDigit, AllDigits, DigitsEnd};
 ghost use Rattle.decimal.specs.Inner.NumberRead.{DigitsRead, NumberRead};
 
 // What is found at a cursor: a number's value and the cursor past it.
-#[derive(Drop)]
+#[derive(Clone, Copy)]
 pub enum NumberFound {
     Number(i32, usize),
     Bad,

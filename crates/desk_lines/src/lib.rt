@@ -11,13 +11,13 @@ pub mod feed;
 pub mod field;
 
 // A drop as it comes.
-#[derive(Drop)]
+#[derive(Clone, Copy)]
 pub struct DropNumbers {
     pub id: i32,
     pub minute: i32,
 }
 
-#[derive(Drop)]
+#[derive(Clone, Copy)]
 pub enum Line {
     Cell(Report),
     Drop(DropNumbers),

@@ -13,13 +13,13 @@ const LINE_FEED: u8 = 10;
 const LONGEST_ANSWER: usize = HITS_ROOM + FIELD_ROOM * DESK_CELLS;
 
 // How many bytes of the line are held, and how many of the answers are written.
-#[derive(Drop)]
+#[derive(Clone, Copy)]
 pub struct Place {
     pub held: usize,
     pub written: usize,
 }
 
-#[derive(Drop)]
+#[derive(Clone, Copy)]
 pub struct Progress {
     pub taken: usize,
     pub place: Place,

@@ -15,14 +15,14 @@ use track::cell::Cell;
 use track::refusal::Refusal;
 
 // The next cell, or none where no more are left.
-#[derive(Drop)]
+#[derive(Clone, Copy)]
 pub enum Next {
     One(Cell),
     None,
 }
 
 // What is looked for: cells that live at the clock, with an identifier above the last.
-#[derive(Drop)]
+#[derive(Clone, Copy)]
 pub struct Sought {
     pub clock: i32,
     pub last: i32,

@@ -18,7 +18,7 @@ use words::put_run;
 pub const RECORD_NUMBERS: usize = 6;
 
 // What leafing through a table comes to: the number, 0 or the refusal's, and how many cells were given.
-#[derive(Drop)]
+#[derive(Clone, Copy)]
 pub struct Listed {
     pub number: i32,
     pub cells: usize,

@@ -1,13 +1,13 @@
 use track::refusal::Refusal;
 
 // How many cells meet a query, and how many nodes it opens.
-#[derive(Drop)]
+#[derive(Clone, Copy)]
 pub struct Found {
     pub hits: usize,
     pub opened: usize,
 }
 
-#[derive(Drop)]
+#[derive(Clone, Copy)]
 pub enum Answer {
     Listed(Found),
     TooMany(usize),

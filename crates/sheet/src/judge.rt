@@ -9,7 +9,7 @@ use track::cell::{Cell, cell_in_range};
 use track::refusal::Refusal;
 
 // What is found of bytes: a well_formed sheet, or why they are none.
-#[derive(Drop)]
+#[derive(Clone, Copy)]
 pub enum Judged {
     WellFormed,
     Refused(Refusal),

@@ -11,7 +11,7 @@ use table::sound::is_sound;
 use track::refusal::Refusal;
 
 // The total length of what was written of a table, a sheet or its text, or why nothing was.
-#[derive(Drop)]
+#[derive(Clone, Copy)]
 pub enum Written {
     Total(usize),
     Refused(Refusal),

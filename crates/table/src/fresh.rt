@@ -11,7 +11,7 @@ use node::change_at::keep_at;
 use track::refusal::Refusal;
 use words::place;
 
-#[derive(Drop)]
+#[derive(Clone, Copy)]
 pub enum Made {
     Fresh,
     Refused(Refusal),

@@ -18,7 +18,7 @@ use track::minute::is_minute;
 use words::place;
 
 // What a pass over some entries comes to: so many identifiers gathered, or something that is not sound.
-#[derive(Drop)]
+#[derive(Clone, Copy)]
 pub enum Scan {
     Passed(usize),
     Bad,

@@ -10,7 +10,7 @@ use crate::refusal::Refusal;
 use crate::report::Report;
 
 // A storm cell, kept at minute 0; its fields stand in the order of a sheet's record.
-#[derive(Drop)]
+#[derive(Clone, Copy)]
 pub struct Cell {
     pub id: i32,
     pub x: i32,
@@ -20,7 +20,7 @@ pub struct Cell {
     pub expiry: Minute,
 }
 
-#[derive(Drop)]
+#[derive(Clone, Copy)]
 pub enum Reported {
     Kept(Cell),
     Refused(Refusal),

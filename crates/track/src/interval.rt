@@ -10,7 +10,7 @@ use crate::queries::Edges;
 use whole::wide;
 
 // The instants from lo/lod to hi/hid; empty where the one is after the other.
-#[derive(Drop)]
+#[derive(Clone, Copy)]
 pub struct Interval {
     pub lo: i64,
     pub lod: i64,
@@ -19,7 +19,7 @@ pub struct Interval {
 }
 
 // The line a + b τ.
-#[derive(Drop)]
+#[derive(Clone, Copy)]
 pub struct Straight {
     pub a: i64,
     pub b: i64,

@@ -2,7 +2,7 @@ ghost use Rattle.whole.specs.Tells.{Tells};
 ghost use Rattle.track.specs.Numbers.{IsMinute};
 
 // A minute of the day, both ends allowed.
-#[derive(Drop)]
+#[derive(Clone, Copy)]
 pub struct Minute {
     pub at: i32,
 }

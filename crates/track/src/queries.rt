@@ -7,7 +7,7 @@ use crate::range::is_position;
 use crate::refusal::Refusal;
 
 // A query's edges on one axis: low and high at its start, low2 and high2 at its end.
-#[derive(Drop)]
+#[derive(Clone, Copy)]
 pub struct Edges {
     pub low: i32,
     pub high: i32,
@@ -16,7 +16,7 @@ pub struct Edges {
 }
 
 // A rectangle that goes straight from the first, at the start, to the second, at the end.
-#[derive(Drop)]
+#[derive(Clone, Copy)]
 pub struct Query {
     pub start: Minute,
     pub end: Minute,
@@ -68,7 +68,7 @@ pub fn window_from(start: i32, end: i32, xlow: i32, xhigh: i32, ylow: i32, yhigh
     )
 }
 
-#[derive(Drop)]
+#[derive(Clone, Copy)]
 pub enum Asked {
     Taken(Query),
     Refused(Refusal),

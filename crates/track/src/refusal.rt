@@ -2,7 +2,7 @@ ghost use Rattle.std.specs.Prelude.{◌≡◌, pos};
 ghost use Rattle.track.specs.Refusals.{number, first_given};
 
 // Why a call is refused. A definition gives each its number.
-#[derive(Drop)]
+#[derive(Clone, Copy)]
 pub enum Refusal {
     NotSound,
     BadCapacity,

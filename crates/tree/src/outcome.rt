@@ -4,7 +4,7 @@ ghost use Rattle.tree.specs.Steps.{outcome_number};
 use track::refusal::Refusal;
 
 // What comes of a report or a drop.
-#[derive(Drop)]
+#[derive(Clone, Copy)]
 pub enum Outcome {
     Accepted,
     Refused(Refusal),

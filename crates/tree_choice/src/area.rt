@@ -15,7 +15,7 @@ const FARTHEST: i64 = 3049120;
 const FASTEST: i64 = 512;
 
 // What is covered on an axis at a minute, and how fast its edges go.
-#[derive(Drop)]
+#[derive(Clone, Copy)]
 pub struct Extent {
     pub low: i64,
     pub high: i64,
@@ -24,7 +24,7 @@ pub struct Extent {
 }
 
 // What is covered on both axes.
-#[derive(Drop)]
+#[derive(Clone, Copy)]
 pub struct Cover {
     pub x: Extent,
     pub y: Extent,

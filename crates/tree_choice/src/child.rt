@@ -10,7 +10,7 @@ use node::entry::{bounds, count};
 use track::meeting::Bounds;
 
 // What it costs a child to take a cell in: the growth of its area integral, and the integral that it had.
-#[derive(Drop)]
+#[derive(Clone, Copy)]
 pub struct Cost {
     pub growth: i64,
     pub before: i64,

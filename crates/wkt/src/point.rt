@@ -11,7 +11,7 @@ use decimal::spelling::{put_signed, put_text};
 use track::cell::Cell;
 
 // A position in whole metres, and a minute.
-#[derive(Drop)]
+#[derive(Clone, Copy)]
 pub struct Point {
     pub x: i32,
     pub y: i32,

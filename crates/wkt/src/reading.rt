@@ -17,21 +17,21 @@ use track::range::is_velocity;
 use track::refusal::Refusal;
 
 // What reading a line gives: the cell, or why there is none.
-#[derive(Drop)]
+#[derive(Clone, Copy)]
 pub enum TrackRead {
     Read(Cell),
     Refused(Refusal),
 }
 
 // What is found at a cursor: a point and the cursor past it.
-#[derive(Drop)]
+#[derive(Clone, Copy)]
 pub enum PointFound {
     At(Point, usize),
     NoPoint,
 }
 
 // What is found in a line: its two points.
-#[derive(Drop)]
+#[derive(Clone, Copy)]
 pub enum PointsFound {
     Two(Point, Point),
     NotTwo,

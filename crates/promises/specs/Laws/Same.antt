@@ -2,7 +2,7 @@
 -- live cells after it.
 use Rattle.std.specs.Prelude.{◌≡◌, refl, ◌↔◌, List, ◌∷◌, ◌++◌, ℕ, ◌<◌, ℤ, length, drop}
 use Rattle.std.proofs.Common.{sym, ap, ap₂, ◌∙◌, subst, arith}
-use Rattle.std.proofs.Math.Logic.{Iff·rfl}
+use mathlib.Core.Logic.Iff
 use Rattle.std.proofs.Math.Decide.{ℕ_discrete}
 use Rattle.leafing.specs.Laws.Search.{next_as}
 use Rattle.words.specs.Words.{nat_of}
@@ -127,7 +127,7 @@ module _ {w v : List ℤ} (a : Alike w v) (long : length w ≡ length v) (cells 
       same : p.number ≡ q.number
       same =
           first_fixed (fresh_reasons cells v) p.number q.number
-          (first_as (fresh_reasons cells w) (fresh_reasons cells v) p.number (refl, Iff·rfl, (refl, short_alike, tt)) p.makes.refusal)
+          (first_as (fresh_reasons cells w) (fresh_reasons cells v) p.number (refl, Iff.rfl, (refl, short_alike, tt)) p.makes.refusal)
           q.makes.refusal
 
   read_alike : {bytes : List ℕ} {x y : Reply} {w' v' : List ℤ} → WasRead w cells bytes x w' → WasRead v cells bytes y v' → (x ≡ y) × Alike w' v'
@@ -140,7 +140,7 @@ module _ {w v : List ℤ} (a : Alike w v) (long : length w ≡ length v) (cells 
       same =
           first_fixed (read_reasons cells v bytes) (outcome_number p.outcome) (outcome_number q.outcome)
           (first_as (read_reasons cells w bytes) (read_reasons cells v bytes) (outcome_number p.outcome)
-          (refl, Iff·rfl, (refl, short_alike, (refl, Iff·rfl, (refl, Iff·rfl, (refl, Iff·rfl, tt)))))
+          (refl, Iff.rfl, (refl, short_alike, (refl, Iff.rfl, (refl, Iff.rfl, (refl, Iff.rfl, tt)))))
           p.reads.refusal)
           q.reads.refusal
 

@@ -1,7 +1,7 @@
 -- A query judged by a flag that tells whether it goes backward.
 use Rattle.std.specs.Prelude.{Bool, refl, T, ℤ}
 use Rattle.std.proofs.Common.{inl, inr, ⊎_elim}
-use Rattle.std.proofs.Math.Logic.{Iff·rfl}
+use mathlib.Core.Logic.Iff
 use Rattle.whole.specs.Tells.{Tells}
 use Rattle.track.specs.Laws.Refusals.{first_as}
 use Rattle.track.specs.Query.{query_reasons, asked_number, Asks}
@@ -13,7 +13,7 @@ pub asks_as : {clock : ℤ} {b : Bool} {Backward : Type 0} {q : Query} {r : Aske
 asks_as {clock} {b} {Backward} {q} {r} told a = record {
   refusal =
       first_as (query_reasons clock (T b) q) (query_reasons clock Backward q) (asked_number r)
-      (refl, Iff·rfl, (refl, Iff·rfl, (refl, (⊎_elim (λ p. inl (told.sure p)) inr, ⊎_elim (λ p. inl (told.seen p)) inr), tt)))
+      (refl, Iff.rfl, (refl, Iff.rfl, (refl, (⊎_elim (λ p. inl (told.sure p)) inr, ⊎_elim (λ p. inl (told.seen p)) inr), tt)))
       a.refusal;
   query = a.query;
 }

@@ -2,7 +2,7 @@ use Rattle.whole.specs.Laws.Within.{fits, back, any_in, read64}
 use Rattle.whole.proofs.wide.Statement.{statement}
 use Rattle.whole.proofs.wide.Tie as tie
 
-cast-result : tie.Need-overflow-cast-result
+cast-result : tie.Need-overflow_cast-result
 cast-result c = simp (back c.ranges.a) (fits tt (any_in c.ranges.a))
 
 returns : tie.Need-returns

@@ -101,14 +101,14 @@ pub back : {w : Width} {z : ℤ} → SFits w z → to_z w (of_z w z) ≡ z
 back {w} {z} f = ValLaws.to_z-of_z w z f
 
 pub read32 : {z : ℤ} {bound : ℕ} → T (ltb bound (2 ^ 31)) → Within bound z → to_z w32 (of_z w32 z) ≡ z
-read32 t h = back (fits t h)
+read32 t h = back {w = w32} (fits t h)
 
 pub read64 : {z : ℤ} {bound : ℕ} → T (ltb bound (2 ^ 63)) → Within bound z → to_z w64 (of_z w64 z) ≡ z
-read64 t h = back (fits t h)
+read64 t h = back {w = w64} (fits t h)
 
 -- a call's result z, and `c.call.ok` is the fact that it fits
 pub word_back : (z : ℤ) → mag z < 2 ^ hbits w32 → to_z w32 (of_z w32 z) ≡ z
-word_back z small = back (record { sfits = small })
+word_back z small = back {w = w32} (record { sfits = small })
 
 -- `-x` in the code is 0 − x
 pub neg_read32 : {z : ℤ} {bound : ℕ} → T (ltb bound (2 ^ 31)) → Within bound z → to_z w32 (of_z w32 (pos 0 -ℤ z)) ≡ neg_ℤ z

@@ -1,0 +1,5 @@
+use Rattle.whole.specs.Laws.Within.{back}
+use Rattle.track.proofs.queries.query_from.Goals as goal
+
+pub returns : goal.returns
+returns c = let f = c.ranges in simp (back, f.start, f.end, f.xlow, f.xhigh, f.ylow, f.yhigh, f.xlow2, f.xhigh2, f.ylow2, f.yhigh2)
