@@ -1,81 +1,79 @@
 use mathlib.Core.Path.{◌≡◌, sym, ◌∙◌}
+use mathlib.Core.List.{[]}
+use lib.IntN.{ℤ}
+use lib.ListN.{get_or}
 use mir.Syntax.{w32, w64}
 use mir.Val.{to_z, of_z}
+use Rattle.whole.specs.Within.{Within}
 use Rattle.whole.specs.Laws.Within.{read32, read64, back}
-use Rattle.whole.specs.Laws.Tells.{not_true, tells_false}
+use Rattle.whole.specs.Laws.Tells.{tells_false}
 use Rattle.track.specs.Laws.Numbers.{minute_in}
-use Rattle.track.specs.Meets.{span}
+use Rattle.track.specs.Meets.{Bounds, span}
+use Rattle.track.specs.Query.{QueryInRange}
 use Rattle.track.specs.Inner.Cut.{lives_in}
+use Rattle.track.specs.Inner.Decides.{along_to}
+use Rattle.track.specs.Inner.Small.{Small, BoundsInRange}
 use Rattle.track.specs.Laws.Decides.{interval_on_x, meeting_of, meets_in, meets_law, never_on_x}
-use Rattle.track.specs.Inner.Small.{Small}
 use Rattle.track.specs.Laws.Small.{along_small, whole_small, meeting_small, span_in}
+use Rattle.track.specs.declared.interval.Interval.{Interval}
+use Rattle.track.specs.declared.queries.Query.{Query}
 use Rattle.track.proofs.meeting.meets.Goals as goal
-use Rattle.track.proofs.meeting.meets.Goals.{Start, After-wide-start, After-wide, After-span-minutes, After-along-on_x, After-along-on_both}
+use Rattle.track.proofs.meeting.meets.Goals.{After-along-on_x, After-along-on_both}
 
-module _ (s : Start) where
-  r_start : to_z w32 (of_z w32 s.args.q.start.at) ≡ s.args.q.start.at
-  r_start = read32 tt (minute_in s.requires.2.start_in)
+-- a minute that `wide` made wider, and the span
+told : {z : ℤ} (m : ℤ) → Within 1440 m → z ≡ to_z w32 (of_z w32 m) → to_z w64 (of_z w64 z) ≡ m
+told m in_day e = simp (e, read32 tt in_day) (read64 tt in_day)
 
-  r_end : to_z w32 (of_z w32 s.args.q.end.at) ≡ s.args.q.end.at
-  r_end = read32 tt (minute_in s.requires.2.end_in)
+told_span : {z : ℤ} {q : Query} → QueryInRange q → z ≡ span q → to_z w64 (of_z w64 z) ≡ span q
+told_span q_in e = simp e (read64 tt (span_in q_in))
 
-  r_expiry : to_z w32 (of_z w32 s.args.expiry) ≡ s.args.expiry
-  r_expiry = back s.ranges.expiry
-
-  x_small : Small (interval_on_x s.args.b s.args.q)
-  x_small =
-      along_small _ _ _ _ _ (minute_in s.requires.2.start_in) (span_in s.requires.2) s.requires.2.x_in s.requires.0.x_in (whole_small s.requires.2)
-
-w_start : (c : After-wide-start) → to_z w64 (of_z w64 c.wide-start.result) ≡ c.args.q.start.at
-w_start c = simp (c.wide-start.ensures, r_start) (read64 tt (minute_in c.requires.2.start_in))
-
-w_end : (c : After-wide) → to_z w64 (of_z w64 c.wide.result) ≡ c.args.q.end.at
-w_end c = simp (c.wide.ensures, r_end) (read64 tt (minute_in c.requires.2.end_in))
-
-w_span : (c : After-span-minutes) → to_z w64 (of_z w64 c.span-minutes.result) ≡ span c.args.q
-w_span c = simp c.span-minutes.ensures (read64 tt (span_in c.requires.2))
-
-ruleset reads = (w_start, w_end, w_span, r_expiry)
-
--- where the calls began
-abbrev from_along : tie.After-along → tie.Start
-from_along c = c.before.before.before.before.before.before.before
-
-is_on_x : (c : After-along-on_x) → c.along-on_x.result ≡ interval_on_x (from_along c).args.b (from_along c).args.q
-is_on_x c = simp reads at c.along-on_x.ensures
-
-is_on_both : (c : After-along-on_both) → c.along-on_both.result ≡ meeting_of (from_along c.before.before.before.before).args.b (from_along c.before.before.before.before).args.q
-unfolding meeting_of
-is_on_both c = simp (reads, is_on_x c.before.before.before.before.before) at c.along-on_both.ensures
+on_x_small : {b : Bounds} {q : Query} → BoundsInRange b → QueryInRange q → Small (interval_on_x b q)
+on_x_small b_in q_in = along_small _ _ _ _ _ (minute_in q_in.start_in) (span_in q_in) q_in.x_in b_in.x_in (whole_small q_in)
 
 pub along-on_x-requires : goal.along-on_x-requires
 along-on_x-requires c =
-    simp reads (whole_small c.requires.2, c.requires.2.x_in, c.requires.0.x_in, minute_in c.requires.2.start_in, span_in c.requires.2)
+    let q_in = c.requires.2 in
+    simp (told c.args.q.start.at (minute_in q_in.start_in) c.wide-start.ensures, told c.args.q.end.at (minute_in q_in.end_in) c.wide.ensures, told_span q_in c.span-minutes.ensures)
+    (whole_small q_in, q_in.x_in, c.requires.0.x_in, minute_in q_in.start_in, span_in q_in)
+
+-- what the first call of `along` left
+on_x : (c : After-along-on_x) → c.along-on_x.result ≡ interval_on_x c.args.b c.args.q
+on_x c =
+    let q_in = c.requires.2 in
+    simp (told c.args.q.start.at (minute_in q_in.start_in) c.wide-start.ensures, told c.args.q.end.at (minute_in q_in.end_in) c.wide.ensures, told_span q_in c.span-minutes.ensures)
+    at c.along-on_x.ensures
 
 pub lives-requires : goal.lives-requires
-lives-requires c = let s = from_along c in simp (reads, is_on_x (goal.at.lives-requires c).After-along-on_x) (x_small s, minute_in s.requires.1)
+lives-requires c = simp (on_x (goal.at.lives-requires c).After-along-on_x, back c.ranges.expiry) (on_x_small c.requires.0 c.requires.2, minute_in c.requires.1)
 
 pub returns-then-not-lives : goal.returns-then-not-lives
 returns-then-not-lives c =
-    let a = (goal.at.returns-then-not-lives c).After-along-on_x in
-    let s = from_along a in
-    let e : c.lives.result ≡ lives_in (interval_on_x s.args.b s.args.q) s.args.expiry = simp (reads, is_on_x a) at c.lives.ensures in
-    tells_false (never_on_x s.args.b s.args.expiry s.args.q (sym e ∙ not_true c.if-not-lives.true))
+    let e : c.lives.result ≡ lives_in (interval_on_x c.args.b c.args.q) c.args.expiry =
+        simp (on_x (goal.at.returns-then-not-lives c).After-along-on_x, back c.ranges.expiry) at c.lives.ensures in
+    tells_false (never_on_x c.args.b c.args.expiry c.args.q (sym e ∙ c.if-not-lives.true))
 
 pub along-on_both-requires : goal.along-on_both-requires
 along-on_both-requires c =
-    let a = (goal.at.along-on_both-requires c).After-along-on_x in
-    let s = from_along a in
-    simp (reads, is_on_x a) (x_small s, s.requires.2.y_in, s.requires.0.y_in, minute_in s.requires.2.start_in, span_in s.requires.2)
+    let q_in = c.requires.2 in
+    simp (on_x (goal.at.along-on_both-requires c).After-along-on_x, told c.args.q.start.at (minute_in q_in.start_in) c.wide-start.ensures, told_span q_in c.span-minutes.ensures)
+    (on_x_small c.requires.0 q_in, q_in.y_in, c.requires.0.y_in, minute_in q_in.start_in, span_in q_in)
+
+-- and the second
+on_both : (c : After-along-on_both) (x : c.along-on_x.result ≡ interval_on_x c.args.b c.args.q) → c.along-on_both.result ≡ meeting_of c.args.b c.args.q
+unfolding meeting_of
+on_both c x =
+    let q_in = c.requires.2 in
+    simp (x, told c.args.q.start.at (minute_in q_in.start_in) c.wide-start.ensures, told_span q_in c.span-minutes.ensures) at c.along-on_both.ensures
 
 pub lives-requires-2 : goal.lives-requires-2
 lives-requires-2 c =
-    let s = from_along c.before.before.before.before in
-    simp (reads, is_on_both (goal.at.lives-requires-2 c).After-along-on_both) (meeting_small s.requires.0 s.requires.2, minute_in s.requires.1)
+    let at = goal.at.lives-requires-2 c in
+    simp (on_both at.After-along-on_both (on_x at.After-along-on_x), back c.ranges.expiry) (meeting_small c.requires.0 c.requires.2, minute_in c.requires.1)
 
 pub returns : goal.returns
 unfolding meets_in
 returns c =
-    let s = from_along c.before.before.before.before.before in
-    let e : c.lives-2.result ≡ meets_in s.args.b s.args.expiry s.args.q = simp (reads, is_on_both (goal.at.returns c).After-along-on_both) at c.lives-2.ensures in
-    rw e (meets_law s.args.b s.args.expiry s.args.q)
+    let at = goal.at.returns c in
+    let e : c.lives-2.result ≡ meets_in c.args.b c.args.expiry c.args.q =
+        simp (on_both at.After-along-on_both (on_x at.After-along-on_x), back c.ranges.expiry) at c.lives-2.ensures in
+    rw e (meets_law c.args.b c.args.expiry c.args.q)
