@@ -1,4 +1,4 @@
--- When bytes are a well_formed sheet, clause by clause, and which refusal is given where they are not.
+-- When bytes are a well-formed sheet, clause by clause, and which refusal is given where they are not.
 use Rattle.std.specs.Prelude.{◌≡◌, List, [], ◌∷◌, map, ℕ, ◌≤◌, ℤ, pos, ◌≤ℤ◌, ◌<ℤ◌, length}
 use Rattle.whole.specs.Lists.{◌∈◌}
 use Rattle.whole.specs.Rising.{Rising}
@@ -34,7 +34,7 @@ pub record CellsSound (clock : ℤ) (cells : List Cell) : Type 0 where
 abbrev pub RecordsSound : List ℕ → Type 0
 RecordsSound bytes = CellsSound (clock_of bytes) (cells_of bytes)
 
--- a well_formed sheet of at most `limit` cells
+-- a well-formed sheet of at most `limit` cells
 pub record SheetSound (limit : ℕ) (bytes : List ℕ) : Type 0 where
   pub header : HeaderSound limit bytes
   pub records : RecordsSound bytes

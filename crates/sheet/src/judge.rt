@@ -1,4 +1,4 @@
-// Whether bytes are a well_formed sheet.
+// Whether bytes are a well-formed sheet.
 ghost use Rattle.whole.specs.Tells.{Tells};
 ghost use Rattle.sheet.specs.WellFormed.{RecordsSound, Judges};
 ghost use Rattle.sheet.specs.Inner.Records.{Follows};
@@ -8,7 +8,7 @@ use crate::record::cell_at;
 use track::cell::{Cell, cell_in_range};
 use track::refusal::Refusal;
 
-// What is found of bytes: a well_formed sheet, or why they are none.
+// What is found of bytes: a well-formed sheet, or why they are none.
 #[derive(Clone, Copy)]
 pub enum Judged {
     WellFormed,

@@ -1,4 +1,6 @@
 // The sheet: a table's clock and live cells as bytes.
+#![tactic(auto)]
+
 pub mod bytes;
 pub mod header;
 pub mod judge;

@@ -1,4 +1,4 @@
--- What the viewer is told of bytes: 1 for a well_formed sheet, else the first refusal's number; `gives_fixed` says that one number only fits it.
+-- What the viewer is told of bytes: 1 for a well-formed sheet, else the first refusal's number; `gives_fixed` says that one number only fits it.
 use Rattle.std.specs.Prelude.{List, [], ◌∷◌, ◌++◌, ℕ}
 use Rattle.track.specs.Numbers.{most_cells}
 use Rattle.track.specs.Refusals.{Reason, ◌when◌}

@@ -1,4 +1,6 @@
 // What the C viewer asks, on plain numbers and on bytes.
+#![tactic(auto)]
+
 ghost use Rattle.track.specs.Answer.{window_answers};
 ghost use Rattle.track.specs.Query.{window_from};
 ghost use Rattle.track.specs.Refusals.{Gives};
@@ -41,7 +43,7 @@ pub extern "C" fn bradawlet_meets(
     answer(reported, asked)
 }
 
-// Whether bytes are a well_formed sheet: 1 for yes, else the refusal's number.
+// Whether bytes are a well-formed sheet: 1 for yes, else the refusal's number.
 #[unsafe(no_mangle)]
 pub extern "C" fn bradawlet_sheet(bytes: &[u8]) -> i32
     ensures { Gives (sheet_answers bytes.now) result }

@@ -128,9 +128,11 @@ unfolding words_from bytes_of_all
 words_read [] before after at long fit = refl
 words_read (z ∷ words) before after at long fit =
     ap₂ {C = List ℤ} (λ y l. y ∷ l) first
-    (rw (append_assoc (bytes_of z) (bytes_of_all words) after, ← append_assoc before (bytes_of z) (bytes_of_all words ++ after))
-    (words_read words (before ++ bytes_of z) after (at + word_bytes) next fit.1))
+    (ap (λ (l : List ℕ). words_from l (at + word_bytes) (length words)) moved ∙ words_read words (before ++ bytes_of z) after (at + word_bytes) next fit.1)
   where
+    moved : before ++ ((bytes_of z ++ bytes_of_all words) ++ after) ≡ (before ++ bytes_of z) ++ (bytes_of_all words ++ after)
+    moved = simp append_assoc
+
     first : word_in_bytes (before ++ ((bytes_of z ++ bytes_of_all words) ++ after)) at ≡ z
     first =
         ap (word_in_bytes (before ++ ((bytes_of z ++ bytes_of_all words) ++ after))) (sym (add-zero at))
@@ -162,7 +164,8 @@ unfolding cells_from records_of
 cells_read [] before k long fit = refl
 cells_read (c ∷ cells) before k long fit =
     ap₂ {C = List Cell} (λ y l. y ∷ l) (cell_read c before (records_of cells) (record_start k) long (fit c (Memᴰ.head refl)))
-    (rw (← append_assoc before (record_of c) (records_of cells)) (cells_read cells (before ++ record_of c) (suc k) next (λ d m. fit d (Memᴰ.tail m))))
+    (ap (λ (l : List ℕ). cells_from l (suc k) (length cells)) (sym (append_assoc before (record_of c) (records_of cells)))
+    ∙ cells_read cells (before ++ record_of c) (suc k) next (λ d m. fit d (Memᴰ.tail m)))
   where
     next : length (before ++ record_of c) ≡ record_start (suc k)
     next = simp length-append (omega (arith, long, length-record_of c))
