@@ -70,6 +70,7 @@ fn digits(line: &[u8], at: usize) -> NumberFound
     NumberFound::Number(words::word_of(value(line, at, n)), at + n)
 }
 
+#[tactic(auto, using(crate::specs::Laws::NumberRead::unsigned))]
 pub fn read_number(line: &[u8], at: usize) -> NumberFound
     requires { at ≤ length line.now }
     ensures { NumberRead line.now at result }

@@ -1,5 +1,7 @@
 // The desk's answers, spelt into a lent buffer, each with its line feed. A buffer that might be too short is refused: nothing is
 // written, and the answer is 0; else the answer is how many bytes were written.
+#![tactic(auto)]
+
 ghost use Rattle.std.specs.Prelude.{◌≡◌, ◌+◌, ◌*◌, ◌^◌, ◌≤◌, ◌<◌, length, take};
 ghost use Rattle.decimal.specs.Inner.PutBytes.{Put, TheseBytes};
 ghost use Rattle.desk_answers.specs.AnswerLines.{ok_line, bad_line, Spaced, NoLine, HitsLine, Spelt};

@@ -1,4 +1,6 @@
 // One line of the desk, read: which of the four forms it is, with what its numbers say, or none of them.
+#![tactic(auto)]
+
 ghost use Rattle.std.specs.Prelude.{◌≡◌};
 ghost use Rattle.desk_lines.specs.Forms.{ReadsLine};
 ghost use Rattle.desk_lines.specs.Inner.Numbered.{report_of, drop_of, window_of, moving_of};

@@ -1,6 +1,6 @@
 -- Bytes held to the definitions: the line that the first cell of the manual's example gives at minute 10, when it is reported; and the one point that it would be at
 -- its expiry, at which it does not live.
-use Rattle.std.specs.Prelude.{◌≡◌, refl, [], ◌∷◌, ℕ, ℤ, pos, neg_ℤ, nat_abs}
+use Rattle.std.specs.Prelude.{◌≡◌, refl, [], ◌∷◌, ℕ, pos, neg_ℤ, nat_abs}
 use Rattle.std.proofs.Common.{ap, arith}
 use Rattle.track.specs.Report.{kept_cell, report_from}
 use Rattle.track.specs.declared.cell.Cell.{Cell}

@@ -1,5 +1,5 @@
 -- A law for each way through the code that reads a line: its numbers, its points, the cell through them.
-use Rattle.std.specs.Prelude.{◌≡◌, List, ◌∷◌, ◌++◌, ℕ, suc, ◌+◌, ◌/◌, ◌^◌, ◌<◌, ◌≤◌, ℤ, pos, negsuc, nat_abs, ◌-ℤ◌, drop, ◌≤ℤ◌, ◌<ℤ◌}
+use Rattle.std.specs.Prelude.{◌≡◌, List, ◌∷◌, ◌++◌, ℕ, suc, ◌+◌, ◌/◌, ◌^◌, ◌<◌, ℤ, pos, negsuc, nat_abs, ◌-ℤ◌, drop, ◌≤ℤ◌, ◌<ℤ◌}
 use Rattle.std.proofs.Common.{sym, ap, ◌∙◌, subst, arith, leb→le, drop-drop, of_z}
 use Rattle.std.specs.Int.{w32}
 use Rattle.whole.specs.Within.{Within}

@@ -1,5 +1,5 @@
 -- A cell has one line, and it has one; how long that is at most. And a form has one pair of points.
-use Rattle.std.specs.Prelude.{◌≡◌, refl, List, ◌∷◌, ◌++◌, ℕ, ◌+◌, ◌≤◌, ℤ, length, ◌<ℤ◌}
+use Rattle.std.specs.Prelude.{◌≡◌, refl, List, ◌∷◌, ◌++◌, ℕ, ◌≤◌, ℤ, length, ◌<ℤ◌}
 use Rattle.std.proofs.Common.{sym, ap, ◌∙◌, subst, append_assoc, arith, length-append}
 use Rattle.std.proofs.Math.IntN.{ℤ_discrete}
 use Rattle.std.specs.Int.Signed.{<ℤ_irrefl}
