@@ -1,4 +1,6 @@
 // Queries of a table: which cells meet a rectangle, still or moving.
+#![tactic(auto)]
+
 ghost use Rattle.track.specs.Query.{still, EndsBeforeStart, EndsByStart};
 ghost use Rattle.query.specs.Queried.{Queried};
 

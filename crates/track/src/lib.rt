@@ -1,4 +1,6 @@
 // Storm cells and queries as numbers, and the test whether a track meets a query.
+#![tactic(auto)]
+
 pub mod cell;
 pub mod interval;
 pub mod meeting;

@@ -14,7 +14,7 @@ use Rattle.tree_choice.specs.Laws.Area.{held_below}
 pub read_test : {a b : ℤ} {r : Bool} → SFits w64 a → SFits w64 b → lt_z (to_z w64 (of_z w64 a)) (to_z w64 (of_z w64 b)) ≡ r → lt_z a b ≡ r
 read_test f g t = simp (back f, back g) at t
 
--- `c.call.ok`, or a field's place in `s.good`, is the fact that z fits
+-- `c.call.type_inv`, or a field's place in `c.well_formed`, is the fact that z fits
 pub long_back : (z : ℤ) → mag z < 2 ^ hbits w64 → to_z w64 (of_z w64 z) ≡ z
 long_back z small = back {w = w64} {z = z} (record { sfits = small })
 

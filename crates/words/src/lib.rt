@@ -1,4 +1,6 @@
 // The words of a table that is lent as a slice: read, written, copied. The readers answer for every place, with 0 past the end.
+#![tactic(auto)]
+
 ghost use Rattle.std.specs.Prelude.{◌≡◌, ◌+◌, ◌^◌, ◌<◌, ◌≤◌, pos, length};
 ghost use Rattle.words.specs.Parts.{part, put};
 ghost use Rattle.words.specs.Inner.Parts.{CanCopy};

@@ -1,6 +1,6 @@
 -- The soundness test's pass over the tree: what passing some entries means.
 -- `es` are entries of a node that has h levels beneath it; `marks` tells for each node whether it was met; m identifiers are gathered.
-use Rattle.std.specs.Prelude.{◌≡◌, Bool, true, false, ℕ, zero, suc, ◌+◌, ◌-◌, ◌≤◌, ◌<◌, ℤ, length, get_or, set, take}
+use Rattle.std.specs.Prelude.{◌≡◌, Bool, true, false, ℕ, zero, suc, ◌+◌, ◌≤◌, ◌<◌, ℤ, length, get_or, set, take}
 use mathlib.Core.List.{List, [], ◌++◌, map, flat_map}
 use Rattle.whole.specs.Lists.{◌∈◌}
 use Rattle.whole.specs.Inner.Times.{times}

@@ -3,7 +3,7 @@ use Rattle.std.specs.Prelude.{◌≡◌, refl, ◌⊎◌, Bool, true, false, con
 use Rattle.std.proofs.Common.{inl, inr, ⊎_elim, arith}
 use mathlib.Core.List.Memᴰ
 use Rattle.std.proofs.Math.IntN.{*ℤ_comm, -ℤ-+ℤ_cancel}
-use Rattle.std.specs.Int.Signed.{lt_z, le_z_yes, ≤ℤ_refl}
+use Rattle.std.specs.Int.Signed.{lt_z, ≤ℤ_refl}
 use Rattle.whole.specs.Laws.Difference.{all5, difs}
 use Rattle.whole.specs.Lists.{◌∈◌}
 use Rattle.whole.specs.Laws.Order.{lt_z_true, lt_z_false, <ℤ→≤ℤ, ≤ℤ_trans, +ℤ_mono, *ℤ_mono, gap_of, positive}

@@ -1,5 +1,4 @@
 use mathlib.Core.Path.{refl}
-use Prim.Native.Nat.{◌-◌}
 use borrow.Author.Rules.{rules}
 use lib.IntN.{pos}
 use Rattle.words.specs.Parts.{part}

@@ -23,7 +23,7 @@ read : {r z : ℤ} → (r ≡ z) × Within (2 ^ 42) r → Read r z
 read h = (read64 tt h.1 ∙ h.0, rw h.0 at h.1)
 
 minute_is : (c : After-wide-minute) → to_z w64 (of_z w64 c.wide-minute.result) ≡ c.args.stamp
-minute_is c =  simp (c.wide-minute.ensures, back c.ranges.stamp) (read64 tt (minute_in c.requires.1))
+minute_is c = simp (c.wide-minute.ensures, back c.ranges.stamp) (read64 tt (minute_in c.requires.1))
 
 lowest : (c : After-extreme-lowest) → Read c.extreme-lowest.result (over c.before.before 2)
 lowest c = read (simp (back c.ranges.stamp) at c.extreme-lowest.ensures)

@@ -14,10 +14,10 @@ opens : (c : After-open_entries-found) → let a = c.args in
 opens c = rw (c.height.ensures.0, c.root.ensures.0) at c.open_entries-found.ensures
 
 inside : (c : After-open_entries-found) → c.open_entries-found.result.hits ≤ length c.open_entries-found.new.keys
-inside c =  hits_inside c.requires.0 (opens c) c.requires.1
+inside c = hits_inside c.requires.0 (opens c) c.requires.1
 
 pub open_entries-found-requires : goal.open_entries-found-requires
-open_entries-found-requires c =  can_open_root c.requires.0 _ _ _ c.height.ensures.0 c.root.ensures.0 c.requires.1
+open_entries-found-requires c = can_open_root c.requires.0 _ _ _ c.height.ensures.0 c.root.ensures.0 c.requires.1
 
 pub slice_bounds-sort-end : goal.slice_bounds-sort-end
 slice_bounds-sort-end c = inside (goal.at.slice_bounds-sort-end c).After-open_entries-found
@@ -26,4 +26,4 @@ pub slice_bounds-sort-end-2 : goal.slice_bounds-sort-end-2
 slice_bounds-sort-end-2 c = sym (length-take-le _ c.open_entries-found.new.keys (inside (goal.at.slice_bounds-sort-end-2 c).After-open_entries-found))
 
 pub returns : goal.returns
-returns c =  gathered_sorted c.requires.0 (opens (goal.at.returns c).After-open_entries-found) c.requires.1 c.sort.ensures
+returns c = gathered_sorted c.requires.0 (opens (goal.at.returns c).After-open_entries-found) c.requires.1 c.sort.ensures

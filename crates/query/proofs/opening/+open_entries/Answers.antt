@@ -1,4 +1,4 @@
-use Rattle.std.proofs.Common.{ℕ, ◌≡◌, ◌<◌, ap, ◌∙◌, length, length-set, arith}
+use Rattle.std.proofs.Common.{ℕ, ◌≡◌, ◌<◌, ap, arith}
 use Rattle.whole.specs.Tells.{Tells}
 use Rattle.whole.specs.Laws.Tells.{passed, failed}
 use Rattle.words.specs.Layout.{node_at, entry_at, full_node}
@@ -8,7 +8,7 @@ use Rattle.table.specs.SoundTree.{is_leaf}
 use Rattle.table.specs.Inner.Scan.{key_of}
 use Rattle.table.specs.Laws.Walk.{no_entry_left, entry_left}
 use Rattle.query.specs.Opened.{EntryMeets}
-use Rattle.query.specs.Laws.Opening.{opens_none, opens_miss, opens_hit, opens_child, can_test, can_miss, hit_room, can_hit, node_fits, can_child, can_after}
+use Rattle.query.specs.Laws.Opening.{opens_none, opens_miss, opens_hit, opens_child, can_test, can_miss, hit_room, can_hit, can_child, can_after}
 use Rattle.query.proofs.opening.+open_entries.Goals as goal
 use Rattle.query.proofs.opening.+open_entries.Goals.{Else-count-from, After-entry_meets}
 

@@ -6,7 +6,7 @@ use Rattle.table.specs.Laws.AtNode.{at_most, entry_here}
 use Rattle.table.proofs.nodes.child_at.Goals as goal
 
 pub child-requires : goal.child-requires
-child-requires c =  omega (arith, c.requires.1, at_most c.args.t.now c.args.i)
+child-requires c = omega (arith, c.requires.1, at_most c.args.t.now c.args.i)
 
 pub returns : goal.returns
 returns c =

@@ -42,8 +42,8 @@ returns-in-Bad t c =
 pub loop-k-preserved : goal.loop-k-preserved
 loop-k-preserved t c =
     elim c.if-height-eq0.branch [
-      then-height-eq0+else-not-take_cell w ↦ rw (w.marks-is, w.keys-is, w.got-is) (left_taken c.loop-k.invariant c.node_at-n.ensures c.count.ensures c.loop-k-test.true w.if-height-eq0.true w.take_cell.ensures (ap not w.if-not-take_cell.false))
-    | else-height-eq0+else-not-enter+in-Passed w ↦ rw (w.marks-is, w.keys-is, w.got-is) (left_passed c.loop-k.invariant c.node_at-n.ensures c.count.ensures c.loop-k-test.true w.if-height-eq0.false w.enter.ensures (ap not w.if-not-enter.false) w.child-c.ensures.0 w.pass-below.ensures w.in-Passed.is)
+      | then-height-eq0+else-not-take_cell w ↦ rw (w.marks-is, w.keys-is, w.got-is) (left_taken c.loop-k.invariant c.node_at-n.ensures c.count.ensures c.loop-k-test.true w.if-height-eq0.true w.take_cell.ensures (ap not w.if-not-take_cell.false))
+      | else-height-eq0+else-not-enter+in-Passed w ↦ rw (w.marks-is, w.keys-is, w.got-is) (left_passed c.loop-k.invariant c.node_at-n.ensures c.count.ensures c.loop-k-test.true w.if-height-eq0.false w.enter.ensures (ap not w.if-not-enter.false) w.child-c.ensures.0 w.pass-below.ensures w.in-Passed.is)
     ]
 
 pub returns : goal.returns

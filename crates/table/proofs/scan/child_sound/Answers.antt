@@ -28,7 +28,7 @@ pub returns-then-not-is_node : goal.returns-then-not-is_node
 returns-then-not-is_node c = tells_false (λ s. failed (told (goal.at.returns-then-not-is_node c).After-is_node) c.if-not-is_node.true s.child_in)
 
 pub node_at-requires : goal.node_at-requires
-node_at-requires c =  node_in_table c.args.t.now _ _ _ c.requires.0 (is_in (goal.at.node_at-requires c).Else-not-is_node) (child_is (goal.at.node_at-requires c).After-place)
+node_at-requires c = node_in_table c.args.t.now _ _ _ c.requires.0 (is_in (goal.at.node_at-requires c).Else-not-is_node) (child_is (goal.at.node_at-requires c).After-place)
 
 pub returns : goal.returns
 returns c =

@@ -1,9 +1,7 @@
-use mathlib.Core.Path.{◌≡◌, refl, sym, ap, ◌∙◌}
+use mathlib.Core.Path.{refl, sym, ap, ◌∙◌}
 use Prim.Native.Nat.{ℕ}
 use lib.ListN.{get_or, set}
 use native.Mathlib.Omega.{arith}
-use mir.Syntax.{w32}
-use mir.Val.{to_z, of_z}
 use Rattle.whole.specs.Tells.{Tells}
 use Rattle.whole.specs.Laws.Tells.{passed, failed}
 use Rattle.whole.specs.Laws.Within.{back}
@@ -33,7 +31,7 @@ pub returns-then-not-entry_sound : goal.returns-then-not-entry_sound
 returns-then-not-entry_sound c = entered_no (λ e n z. failed (told (goal.at.returns-then-not-entry_sound c).After-entry_sound) c.if-not-entry_sound.true e) refl
 
 pub node_at-requires : goal.node_at-requires
-node_at-requires c =  node_in_table c.args.t.now _ _ _ c.requires.0 (is_sound (goal.at.node_at-requires c).Else-not-entry_sound).child_in c.child-c.ensures.0
+node_at-requires c = node_in_table c.args.t.now _ _ _ c.requires.0 (is_sound (goal.at.node_at-requires c).Else-not-entry_sound).child_in c.child-c.ensures.0
 
 pub returns-then-not-is_counted : goal.returns-then-not-is_counted
 returns-then-not-is_counted c = entered_no (λ e n z. failed (told_count (goal.at.returns-then-not-is_counted c).After-is_counted) c.if-not-is_counted.true n) refl

@@ -35,7 +35,7 @@ pub returns-then-not-child_sound : goal.returns-then-not-child_sound
 returns-then-not-child_sound c = tells_false (λ e. failed c.child_sound.ensures c.if-not-child_sound.true (child_sound e))
 
 pub node_at-c-requires : goal.node_at-c-requires
-node_at-c-requires c =  node_in_table c.args.t.now _ _ _ c.requires.0 (child_in (goal.at.node_at-c-requires c).Else-not-child_sound).child_in c.child.ensures.0
+node_at-c-requires c = node_in_table c.args.t.now _ _ _ c.requires.0 (child_in (goal.at.node_at-c-requires c).Else-not-child_sound).child_in c.child.ensures.0
 
 pub returns-then-not-stamp_sound : goal.returns-then-not-stamp_sound
 returns-then-not-stamp_sound c = tells_false (λ e. failed (told_stamp (goal.at.returns-then-not-stamp_sound c).After-stamp_sound) c.if-not-stamp_sound.true (stamp_sound e))

@@ -1,4 +1,4 @@
-use Prim.Native.Nat.{◌-◌, ◌<◌}
+use Prim.Native.Nat.{◌<◌}
 use native.Mathlib.Omega.{arith}
 use Rattle.whole.specs.Laws.Order.{lt_z_true, lt_z_false}
 use Rattle.whole.specs.Laws.Tells.{tells_true, tells_false}

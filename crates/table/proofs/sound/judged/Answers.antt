@@ -1,12 +1,8 @@
 use mathlib.Core.Path.{◌≡◌, sym, ap, ◌∙◌}
-use mathlib.Core.List.{List}
 use Prim.Native.Nat.{ℕ, ◌≤◌}
-use lib.IntN.{ℤ}
 use native.Mathlib.Omega.{arith}
 use lib.ListN.{length, set, length-set}
 use lib.Seq.{length-take-le}
-use mir.Syntax.{w32}
-use mir.Val.{to_z, of_z}
 use Rattle.whole.specs.Laws.Tells.{tells_false, tells_as, passed, failed}
 use Rattle.whole.specs.Laws.Within.{word_back}
 use Rattle.table.specs.Header.{capacity, clock, root, height, entries_at, nodes_for}

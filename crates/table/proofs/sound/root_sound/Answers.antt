@@ -8,7 +8,7 @@ use Rattle.table.proofs.sound.root_sound.Goals as goal
 use Rattle.table.proofs.sound.root_sound.Goals.{After-root-i, After-node_at}
 
 root_in_table : (c : After-root-i) → InTable c.args.t.now c.root-i.result
-root_in_table c =  node_in_table c.args.t.now _ _ _ c.requires.long_enough c.requires.root_in c.root-i.ensures.0
+root_in_table c = node_in_table c.args.t.now _ _ _ c.requires.long_enough c.requires.root_in c.root-i.ensures.0
 
 root_is : (c : After-node_at) → let w = c.args.t.now in c.node_at.result.now ≡ node_at w (root w)
 root_is c = c.node_at.ensures ∙ ap (node_at c.args.t.now) c.root-i.ensures.0

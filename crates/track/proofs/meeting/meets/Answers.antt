@@ -1,7 +1,5 @@
 use mathlib.Core.Path.{◌≡◌, sym, ◌∙◌}
-use mathlib.Core.List.{[]}
 use lib.IntN.{ℤ}
-use lib.ListN.{get_or}
 use mir.Syntax.{w32, w64}
 use mir.Val.{to_z, of_z}
 use Rattle.whole.specs.Within.{Within}
@@ -11,11 +9,9 @@ use Rattle.track.specs.Laws.Numbers.{minute_in}
 use Rattle.track.specs.Meets.{Bounds, span}
 use Rattle.track.specs.Query.{QueryInRange}
 use Rattle.track.specs.Inner.Cut.{lives_in}
-use Rattle.track.specs.Inner.Decides.{along_to}
 use Rattle.track.specs.Inner.Small.{Small, BoundsInRange}
 use Rattle.track.specs.Laws.Decides.{interval_on_x, meeting_of, meets_in, meets_law, never_on_x}
 use Rattle.track.specs.Laws.Small.{along_small, whole_small, meeting_small, span_in}
-use Rattle.track.specs.declared.interval.Interval.{Interval}
 use Rattle.track.specs.declared.queries.Query.{Query}
 use Rattle.track.proofs.meeting.meets.Goals as goal
 use Rattle.track.proofs.meeting.meets.Goals.{After-along-on_x, After-along-on_both}
@@ -49,7 +45,7 @@ lives-requires c = simp (on_x (goal.at.lives-requires c).After-along-on_x, back 
 pub returns-then-not-lives : goal.returns-then-not-lives
 returns-then-not-lives c =
     let e : c.lives.result ≡ lives_in (interval_on_x c.args.b c.args.q) c.args.expiry =
-        simp (on_x (goal.at.returns-then-not-lives c).After-along-on_x, back c.ranges.expiry) at c.lives.ensures in
+    simp (on_x (goal.at.returns-then-not-lives c).After-along-on_x, back c.ranges.expiry) at c.lives.ensures in
     tells_false (never_on_x c.args.b c.args.expiry c.args.q (sym e ∙ c.if-not-lives.true))
 
 pub along-on_both-requires : goal.along-on_both-requires
@@ -75,5 +71,5 @@ unfolding meets_in
 returns c =
     let at = goal.at.returns c in
     let e : c.lives-2.result ≡ meets_in c.args.b c.args.expiry c.args.q =
-        simp (on_both at.After-along-on_both (on_x at.After-along-on_x), back c.ranges.expiry) at c.lives-2.ensures in
+    simp (on_both at.After-along-on_both (on_x at.After-along-on_x), back c.ranges.expiry) at c.lives-2.ensures in
     rw e (meets_law c.args.b c.args.expiry c.args.q)

@@ -1,16 +1,14 @@
-use mathlib.Core.Path.{◌≡◌, refl}
+use mathlib.Core.Path.{refl}
 use mathlib.Core.Logic.{◌⊎◌, inl, inr}
 use mathlib.Core.Bool.{Bool, ◌||◌}
 use lib.Dec.{T}
-use lib.Signed.{◌≤ℤ◌, clash_ℤ}
-use mir.Syntax.{w32}
-use mir.Val.{to_z, of_z}
+use lib.Signed.{clash_ℤ}
 use Rattle.whole.specs.Laws.Within.{back, word_back}
 use Rattle.whole.specs.Laws.Order.{lt_z_true, lt_z_false}
 use Rattle.whole.specs.Tells.{Tells}
-use Rattle.whole.specs.Laws.Tells.{passed, failed, passed_not, failed_not, tells_either}
+use Rattle.whole.specs.Laws.Tells.{passed, failed, tells_either}
 use Rattle.track.specs.Laws.Refusals.{not_zero}
-use Rattle.track.specs.Query.{QueryInRange, Crossed}
+use Rattle.track.specs.Query.{Crossed}
 use Rattle.track.specs.declared.queries.Query.{Query}
 use Rattle.track.proofs.queries.judged.Goals as goal
 
@@ -24,25 +22,35 @@ returns-then-not-query_in_range c = record { refusal = inl (failed c.query_in_ra
 pub returns-then-q-clock : goal.returns-then-q-clock
 returns-then-q-clock c = record {
   refusal =
-      inr (λ f. f (passed c.query_in_range.ensures c.if-not-query_in_range.false),
-      inl (lt_z_true (simp (word_back c.args.q.start.at c.well_formed.1.1.0.1.1.0.1.1.0.1, back c.ranges.clock) at c.if-q-clock.true), refl));
+      inr (
+        λ f. f (passed c.query_in_range.ensures c.if-not-query_in_range.false),
+        inl (lt_z_true (simp (word_back c.args.q.start.at c.well_formed.1.1.0.1.1.0.1.1.0.1, back c.ranges.clock) at c.if-q-clock.true), refl),
+      );
   query = not_zero 4;
 }
 
 pub returns-then-backward-crossing : goal.returns-then-backward-crossing
 returns-then-backward-crossing c = record {
   refusal =
-      inr (λ f. f (passed c.query_in_range.ensures c.if-not-query_in_range.false),
-      inr (λ e. clash_ℤ e (lt_z_false (simp (word_back c.args.q.start.at c.well_formed.1.1.0.1.1.0.1.1.0.1, back c.ranges.clock) at c.if-q-clock.false)),
-      inl (passed (against c.args.backward c.args.q c.crossed.ensures c.crossed-2.ensures) c.if-backward-crossing.true, refl)));
+      inr (
+        λ f. f (passed c.query_in_range.ensures c.if-not-query_in_range.false),
+        inr (
+          λ e. clash_ℤ e (lt_z_false (simp (word_back c.args.q.start.at c.well_formed.1.1.0.1.1.0.1.1.0.1, back c.ranges.clock) at c.if-q-clock.false)),
+          inl (passed (against c.args.backward c.args.q c.crossed.ensures c.crossed-2.ensures) c.if-backward-crossing.true, refl),
+        ),
+      );
   query = not_zero 6;
 }
 
 pub returns : goal.returns
 returns c = record {
   refusal =
-      inr (λ f. f (passed c.query_in_range.ensures c.if-not-query_in_range.false),
-      inr (λ e. clash_ℤ e (lt_z_false (simp (word_back c.args.q.start.at c.well_formed.1.1.0.1.1.0.1.1.0.1, back c.ranges.clock) at c.if-q-clock.false)),
-      inr (failed (against c.args.backward c.args.q c.crossed.ensures c.crossed-2.ensures) c.if-backward-crossing.false, refl)));
+      inr (
+        λ f. f (passed c.query_in_range.ensures c.if-not-query_in_range.false),
+        inr (
+          λ e. clash_ℤ e (lt_z_false (simp (word_back c.args.q.start.at c.well_formed.1.1.0.1.1.0.1.1.0.1, back c.ranges.clock) at c.if-q-clock.false)),
+          inr (failed (against c.args.backward c.args.q c.crossed.ensures c.crossed-2.ensures) c.if-backward-crossing.false, refl),
+        ),
+      );
   query = λ e. refl;
 }

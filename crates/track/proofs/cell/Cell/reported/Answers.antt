@@ -1,5 +1,5 @@
-use mathlib.Core.Path.{◌≡◌, refl}
-use mathlib.Core.Logic.{inl, inr}
+use mathlib.Core.Path.{refl}
+use mathlib.Core.Logic.{inr}
 use lib.Signed.{clash_ℤ}
 use Rattle.whole.specs.Laws.Within.{back, word_back, read32}
 use Rattle.whole.specs.Laws.Order.{lt_z_false, le_z_false}
@@ -31,17 +31,17 @@ returns c =
     let in_time = lt_z_false (simp (minute, back c.ranges.clock) at c.if-early.false) in
     let ordered = le_z_false (simp (expiry, minute) at c.if-expiry-minute.false) in
     simp (
-    c.kept.ensures,
-    c.kept-2.ensures,
-    word_back r.id fits.0.1,
-    word_back r.x fits.1.0.1,
-    word_back r.vx fits.1.1.1.0.1,
-    word_back r.y fits.1.1.0.1,
-    word_back r.vy fits.1.1.1.1.0.1,
-    minute,
-    expiry,
-    read32 tt (kept_in m.x_in m.vx_in m.minute_in),
-    read32 tt (kept_in m.y_in m.vy_in m.minute_in),
+      c.kept.ensures,
+      c.kept-2.ensures,
+      word_back r.id fits.0.1,
+      word_back r.x fits.1.0.1,
+      word_back r.vx fits.1.1.1.0.1,
+      word_back r.y fits.1.1.0.1,
+      word_back r.vy fits.1.1.1.1.0.1,
+      minute,
+      expiry,
+      read32 tt (kept_in m.x_in m.vx_in m.minute_in),
+      read32 tt (kept_in m.y_in m.vy_in m.minute_in),
     )
     (record {
       refusal = inr (λ f. f m, inr (λ e. clash_ℤ e in_time, inr (λ e. clash_ℤ ordered e, refl)));
