@@ -1,5 +1,5 @@
 -- Below the child of a node an entry was taken out, and the node is mended: what that needs, and what it gives.
-use Rattle.std.specs.Prelude.{◌≡◌, List, [], ◌∷◌, ℕ, suc, ◌-◌, ◌≤◌, ◌<◌, ℤ, length, get_or}
+use Rattle.std.specs.Prelude.{◌≡◌, List, [], ◌∷◌, ℕ, suc, ◌≤◌, ◌<◌, ℤ, length, get_or}
 use Rattle.track.specs.Numbers.{IsMinute}
 use Rattle.node.specs.Entry.{Entry}
 use Rattle.table.specs.Header.{capacity, nodes_for, entries_at}

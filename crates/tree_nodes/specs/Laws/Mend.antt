@@ -1,5 +1,5 @@
 -- How a node is mended: its child has entries enough, or shares them with a sibling, or is joined to it.
-use Rattle.std.specs.Prelude.{◌≡◌, refl, List, [], ◌∷◌, ◌++◌, ℕ, suc, ◌+◌, ◌-◌, ◌≤◌, ◌<◌, ℤ, nat_abs, length, get_or, set}
+use Rattle.std.specs.Prelude.{◌≡◌, refl, List, [], ◌∷◌, ◌++◌, ℕ, suc, ◌-◌, ◌≤◌, ◌<◌, ℤ, nat_abs, length, get_or, set}
 use Rattle.std.proofs.Common.{sym, ap, ◌∙◌, subst, ⊎_elim, arith, length-set}
 use mathlib.Core.List.Memᴰ
 use Rattle.whole.specs.Lists.{◌∈◌}

@@ -1,5 +1,5 @@
-use Rattle.std.proofs.Common.{length, subst, arith}
-use lib.Dec.{leb, leb→le, le→leb}
+use Rattle.std.proofs.Common.{length, subst, arith, leb→le, le→leb}
+use lib.Dec.{leb}
 use Rattle.whole.specs.Laws.Within.{read32}
 use Rattle.desk_lines.specs.Inner.FieldsRead.{FieldRead}
 use Rattle.desk_lines.specs.Laws.Passing.{fields_passed_none, fields_passed_next, fields_passed_bad, fields_passed_all}

@@ -1,5 +1,4 @@
-use Rattle.std.proofs.Common.{ap, arith, length, drop}
-use lib.ListN.{length-append}
+use Rattle.std.proofs.Common.{ap, arith, length, drop, length-append}
 use Rattle.whole.specs.Laws.Tells.{passed, failed}
 use Rattle.desk_lines.specs.Laws.Forms.{no_word, word_and_fields}
 use Rattle.desk_lines.proofs.field.is_form.Goals as goal

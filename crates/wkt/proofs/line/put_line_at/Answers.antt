@@ -1,5 +1,4 @@
-use Rattle.std.proofs.Common.{◌≡◌, sym, ℕ, take, arith}
-use mathlib.Core.List.{List}
+use Rattle.std.proofs.Common.{◌≡◌, sym, ℕ, take, arith, List}
 use lib.Seq.{length-take-le}
 use Rattle.whole.specs.Laws.Within.{back}
 use Rattle.decimal.specs.Laws.PutBytes.{put_long, put_as, put_read}

@@ -1,7 +1,4 @@
-use Rattle.std.proofs.Common.{ap, ℕ, ◌+◌, ◌≤◌, arith, length, rules}
-use mathlib.Core.List.{List}
-use native.Mathlib.Nat.{not-suc-le-zero}
-use lib.ListN.{get_or}
+use Rattle.std.proofs.Common.{ap, ℕ, ◌+◌, ◌≤◌, arith, length, rules, List, not-suc-le-zero, get_or}
 use lib.Seq.{ext_get_or}
 use borrow.Author.Count.{below_more}
 use Rattle.whole.specs.Laws.Tells.{tells_true, tells_false}

@@ -1,5 +1,4 @@
-use Rattle.std.proofs.Common.{◌≡◌, ℕ, ◌-◌, ◌≤◌, ◌<◌, length}
-use lib.ListN.{get_or}
+use Rattle.std.proofs.Common.{◌≡◌, ℕ, ◌-◌, ◌≤◌, ◌<◌, length, get_or}
 use Rattle.wkt.proofs.reading.same_bytes.Given as goal
 
 abbrev pub invariant-loop-i : goal.invariant-loop-i
