@@ -1,2 +1,3 @@
 pub mod Talked
+pub mod Inner
 pub mod Laws

@@ -1,14 +1,17 @@
 // The desk: lines from standard input, an answer to each on standard output.
+#![tactic(auto)]
+
 ghost use Rattle.std.specs.Prelude.{◌≡◌, ◌-◌, ◌^◌, pos, length};
 ghost use Rattle.table.specs.Header.{words_for};
 ghost use Rattle.table.specs.Fresh.{IsFresh};
 ghost use Rattle.desk_serve.specs.Answered.{desk_cells};
 ghost use Rattle.desk_serve.specs.Served.{CanServe};
 ghost use Rattle.desk.specs.Talked.{Talked, Finished, Turned, Ran};
+ghost use Rattle.desk.specs.Inner.Counts.{Moved, IsPrefixLen, clamp_len};
 
 use desk_serve::DESK_CELLS;
 use desk_serve::serving::{end, serve};
-use libc::{STDERR_FILENO, STDIN_FILENO, STDOUT_FILENO};
+use std::io::Read;
 use table::fresh::fresh;
 use words::{HEADER, NODE_WORDS};
 
@@ -17,21 +20,22 @@ const TABLE_WORDS: usize = HEADER + NODE_WORDS * (DESK_CELLS / 2 + 1);
 
 const CAPACITY: i32 = DESK_CELLS as i32;
 
+// The bytes of a piece of input, and of the answers that are written at once.
+const PIECE: usize = 65536;
+
 // Whether standard output took the answers. Where it did not, a line on standard error says so.
-fn say(answers: &[u8]) -> bool {
-    if io::write_all(STDOUT_FILENO, answers) {
+fn say(rt: &HostRuntime, answers: &[u8]) -> bool {
+    if rt.write_all(answers).is_ok() {
         return true;
     }
-    io::write_all(
-        STDERR_FILENO,
-        b"bradawlet: standard output could not be written\n",
-    );
+    let _ = eprintln!(rt; "bradawlet: standard output could not be written");
     false
 }
 
 // Answers every line that ends in the piece, and tells whether standard output took every answer. What is held of a line from piece
 // to piece is counted here alone.
 fn talk(
+    rt: &HostRuntime,
     t: &mut [i32],
     list: &mut [i32],
     line: &mut [u8],
@@ -57,7 +61,7 @@ fn talk(
         let written = place.written;
         *held = now_held;
         from += done.taken;
-        if !say(&out[..written]) {
+        if !say(rt, &out[..written]) {
             return false;
         }
     }
@@ -65,17 +69,47 @@ fn talk(
 }
 
 // Answers what follows the last line feed.
-fn finish(t: &mut [i32], list: &mut [i32], line: &[u8], held: usize, out: &mut [u8])
+fn finish(
+    rt: &HostRuntime,
+    t: &mut [i32],
+    list: &mut [i32],
+    line: &[u8],
+    held: usize,
+    out: &mut [u8],
+)
     requires { CanServe list.old line.now held out.old }
     ensures { Finished t.old line.now held t.new }
 {
     let written = end(t, list, line, held, &mut *out);
-    say(&out[..written]);
+    say(rt, &out[..written]);
+}
+
+// What a read answers: below 0 if it failed, else how many bytes it put at the start of the piece, 0 at the end of the input.
+fn read_piece(rt: &HostRuntime, piece: &mut [u8]) -> isize
+    ensures { Moved (length piece.old) result }
+{
+    match rt.stdin().read(piece) {
+        Ok(n) => n as isize,
+        Err(_) => -1,
+    }
+}
+
+// How many bytes of the piece came in: none where the answer is below 0, and never more than there are.
+fn count(got: isize, piece: &[u8]) -> usize
+    ensures in_bounds { IsPrefixLen result piece.now }
+    ensures value { result ≡ clamp_len got (length piece.now) }
+{
+    if got > 0 {
+        (got as usize).min(piece.len())
+    } else {
+        0
+    }
 }
 
 // What a read came to: `got` is its answer, and the piece has the bytes that came in. Tells whether to go on reading. A read that fails
 // is no end of the input: what is held then is no last line.
 fn turn(
+    rt: &HostRuntime,
     t: &mut [i32],
     list: &mut [i32],
     line: &mut [u8],
@@ -88,18 +122,15 @@ fn turn(
     ensures { Turned got t.old line.old held.old piece.now t.new line.new held.new result }
 {
     if got < 0 {
-        io::write_all(
-            STDERR_FILENO,
-            b"bradawlet: standard input could not be read\n",
-        );
+        let _ = eprintln!(rt; "bradawlet: standard input could not be read");
         return false;
     }
-    let came = io::count(got, piece);
+    let came = count(got, piece);
     if came == 0 {
-        finish(t, list, line, *held, out);
+        finish(rt, t, list, line, *held, out);
         return false;
     }
-    talk(t, list, line, held, &piece[..came], out)
+    talk(rt, t, list, line, held, &piece[..came], out)
 }
 
 // A proved loop has to end, and nothing says that the input does: so the turns are counted down, from a number that no run uses up.
@@ -111,6 +142,7 @@ fn most_turns() -> u64
 
 // Reads piece after piece until the input ends or a file fails. At the start nothing is held of a line.
 fn run(
+    rt: &HostRuntime,
     t: &mut [i32],
     list: &mut [i32],
     line: &mut [u8],
@@ -123,9 +155,9 @@ fn run(
 {
     let mut turns = most_turns();
     while turns > 0 {
-        let got = libc::read(STDIN_FILENO, &mut *piece);
+        let got = read_piece(rt, &mut *piece);
         if !turn(
-            &mut *t, &mut *list, &mut *line, &mut *held, got, piece, &mut *out,
+            rt, &mut *t, &mut *list, &mut *line, &mut *held, got, piece, &mut *out,
         ) {
             return;
         }
@@ -141,15 +173,15 @@ fn begin(t: &mut [i32])
     fresh(t, CAPACITY);
 }
 
-fn main() {
+fn main(rt: HostRuntime) {
     let mut table = [0i32; TABLE_WORDS];
     let mut list = [0i32; DESK_CELLS];
     let mut line = [0u8; 129];
     let mut held = 0;
-    let mut piece = io::large_buffer();
-    let mut out = io::large_buffer();
+    let mut piece = [0u8; PIECE];
+    let mut out = [0u8; PIECE];
     begin(&mut table);
     run(
-        &mut table, &mut list, &mut line, &mut held, &mut piece, &mut out,
+        &rt, &mut table, &mut list, &mut line, &mut held, &mut piece, &mut out,
     );
 }

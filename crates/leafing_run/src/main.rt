@@ -1,7 +1,9 @@
 // A run of the leafing. Cells are reported out of order, one of them once more; one is dropped, and two have expired. The cells that
 // are left are listed by leafing through the table, and printed.
+#![tactic(auto)]
+
 use leafing::through::{Listed, RECORD_NUMBERS, leaf_through};
-use libc::STDOUT_FILENO;
+use std::io;
 use table::fresh::fresh;
 use track::report::report_from;
 use tree::change::{drop, report};
@@ -36,52 +38,57 @@ fn report_all(t: &mut [i32]) {
     }
 }
 
-fn print_text(text: &[u8]) {
-    io::write_all(STDOUT_FILENO, text);
+fn print_text(rt: &HostRuntime, text: &[u8]) -> io::Result<()> {
+    rt.write_all(text)
 }
 
-fn print_number(z: i32) {
+fn print_decimal(rt: &HostRuntime, n: u64) -> io::Result<()> {
+    rt.print(n)
+}
+
+fn print_number(rt: &HostRuntime, z: i32) -> io::Result<()> {
     if z < 0 {
-        print_text(b"-");
-        io::print_decimal(STDOUT_FILENO, place(-1 - z) as u64 + 1);
+        print_text(rt, b"-")?;
+        print_decimal(rt, place(-1 - z) as u64 + 1)
     } else {
-        io::print_decimal(STDOUT_FILENO, place(z) as u64);
+        print_decimal(rt, place(z) as u64)
     }
 }
 
 // The number that was given, and how many cells.
-fn print_answer(listed: Listed) {
-    print_text(b"number ");
-    print_number(listed.number);
-    print_text(b", cells ");
-    io::print_decimal(STDOUT_FILENO, listed.cells as u64);
-    print_text(b"\n");
+fn print_answer(rt: &HostRuntime, listed: Listed) -> io::Result<()> {
+    print_text(rt, b"number ")?;
+    print_number(rt, listed.number)?;
+    print_text(rt, b", cells ")?;
+    print_decimal(rt, listed.cells as u64)?;
+    print_text(rt, b"\n")
 }
 
 // A line for each record: identifier, kept x, x velocity, kept y, y velocity, expiry.
-fn print_records(list: &[i32]) {
+fn print_records(rt: &HostRuntime, list: &[i32]) -> io::Result<()> {
     let mut j = 0;
     while j < list.len() {
-        print_number(list[j]);
+        print_number(rt, list[j])?;
         j += 1;
         if j % RECORD_NUMBERS == 0 {
-            print_text(b"\n");
+            print_text(rt, b"\n")?;
         } else {
-            print_text(b" ");
+            print_text(rt, b" ")?;
         }
     }
+    Ok(())
 }
 
 // Seven cells are left: a list of 42 places holds them, one of 41 is refused, and words that are no table are refused.
-fn main() {
+fn main(rt: HostRuntime) -> io::Result<()> {
     let mut table = [0i32; 880];
     let mut list = [0i32; 42];
     let mut short = [0i32; 41];
     fresh(&mut table, 16);
     report_all(&mut table);
     drop(&mut table, 9, 12);
-    print_answer(leaf_through(&table, &mut list));
-    print_records(&list);
-    print_answer(leaf_through(&table, &mut short));
-    print_answer(leaf_through(&short, &mut list));
+    print_answer(&rt, leaf_through(&table, &mut list))?;
+    print_records(&rt, &list)?;
+    print_answer(&rt, leaf_through(&table, &mut short))?;
+    print_answer(&rt, leaf_through(&short, &mut list))
 }

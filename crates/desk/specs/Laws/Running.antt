@@ -3,7 +3,7 @@ use Rattle.std.specs.Prelude.{◌≡◌, refl, Bool, true, List, ◌++◌, ℕ, 
 use Rattle.std.proofs.Common.{sym, ◌∙◌, inl, inr, arith}
 use Rattle.std.proofs.lemmas.Bool.{false≢true}
 use Rattle.std.specs.Int.Signed.{lt_z_yes}
-use Rattle.libc.specs.Io.{Moved}
+use Rattle.desk.specs.Inner.Counts.{Moved}
 use Rattle.desk.specs.Talked.{HearsAll, Talked, Turned, Ran}
 use Rattle.desk.specs.Laws.Talking.{hears_then}
 

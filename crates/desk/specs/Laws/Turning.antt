@@ -1,7 +1,7 @@
 -- The three ways of a turn: the read failed, the input has ended, bytes came in.
 use Rattle.std.specs.Prelude.{◌≡◌, refl, Bool, false, List, ℕ, ◌≤◌, ℤ, pos, negsuc, length, take, ◌≤ℤ◌, ◌<ℤ◌}
 use Rattle.std.proofs.Common.{subst, arith, ltb→lt}
-use Rattle.io.specs.Counts.{clamp_len}
+use Rattle.desk.specs.Inner.Counts.{clamp_len}
 use Rattle.desk.specs.Talked.{Talked, Finished, Turned}
 
 below_zero : {k : ℕ} → pos k <ℤ pos 0 → ⊥
