@@ -6,8 +6,7 @@ use track::report::report_from;
 use tree::change::{drop, report};
 
 // Puts a cell in, in the place of a live one of the same identifier: 0, or the refusal's number.
-#[unsafe(no_mangle)]
-pub extern "C" fn bradawlet_report(
+pub fn bradawlet_report(
     table: &mut [i32],
     id: i32,
     x: i32,
@@ -25,8 +24,7 @@ pub extern "C" fn bradawlet_report(
 }
 
 // Takes a live cell out: 0, or the refusal's number.
-#[unsafe(no_mangle)]
-pub extern "C" fn bradawlet_drop(table: &mut [i32], id: i32, minute: i32) -> i32
+pub fn bradawlet_drop(table: &mut [i32], id: i32, minute: i32) -> i32
     ensures { DropGives table.old id minute result table.new }
 {
     let outcome = drop(table, id, minute);

@@ -1,4 +1,6 @@
-// The calls that C and Rust link, on plain numbers and lent words.
+// The calls that C and Rust link, on plain numbers and lent words; `calls_c` exports them.
+#![tactic(auto)]
+
 ghost use Rattle.track.specs.Answer.{moving_answers};
 ghost use Rattle.track.specs.Query.{query_from, window_from};
 ghost use Rattle.track.specs.Refusals.{Gives};
@@ -20,8 +22,7 @@ pub mod sheets;
 pub mod tracks;
 
 // Whether the cell of a report meets a moving query: 1 for yes, 0 for no, else the refusal's number.
-#[unsafe(no_mangle)]
-pub extern "C" fn bradawlet_meets_moving(
+pub fn bradawlet_meets_moving(
     id: i32,
     x: i32,
     y: i32,
@@ -53,8 +54,7 @@ pub extern "C" fn bradawlet_meets_moving(
 }
 
 // Makes a fresh table for so many cells: 0, or the refusal's number.
-#[unsafe(no_mangle)]
-pub extern "C" fn bradawlet_fresh(table: &mut [i32], cells: i32) -> i32
+pub fn bradawlet_fresh(table: &mut [i32], cells: i32) -> i32
     ensures { FreshGives cells table.old result table.new }
 {
     match fresh(table, cells) {
@@ -88,8 +88,7 @@ fn in_numbers(answer: Answer, hits: &mut i32, opened: &mut i32) -> i32
 }
 
 // Lists the cells that meet a window: 0, or the refusal's number.
-#[unsafe(no_mangle)]
-pub extern "C" fn bradawlet_window(
+pub fn bradawlet_window(
     table: &[i32],
     list: &mut [i32],
     start: i32,
@@ -109,8 +108,7 @@ pub extern "C" fn bradawlet_window(
 }
 
 // Lists the cells that meet a moving query: 0, or the refusal's number.
-#[unsafe(no_mangle)]
-pub extern "C" fn bradawlet_moving(
+pub fn bradawlet_moving(
     table: &[i32],
     list: &mut [i32],
     start: i32,

@@ -32,8 +32,7 @@ pub fn written_in_numbers(written: Written, total: &mut i32) -> i32
 }
 
 // Writes the table's sheet to the first bytes: 0, or the refusal's number.
-#[unsafe(no_mangle)]
-pub extern "C" fn bradawlet_write(table: &[i32], bytes: &mut [u8], total: &mut i32) -> i32
+pub fn bradawlet_write(table: &[i32], bytes: &mut [u8], total: &mut i32) -> i32
     ensures { WriteGives table.now bytes.old result total.new bytes.new }
 {
     let written = write_sheet(table, bytes);
@@ -41,8 +40,7 @@ pub extern "C" fn bradawlet_write(table: &[i32], bytes: &mut [u8], total: &mut i
 }
 
 // Replaces the table by one for so many cells that holds the sheet's: 0, or the refusal's number.
-#[unsafe(no_mangle)]
-pub extern "C" fn bradawlet_read(table: &mut [i32], cells: i32, bytes: &[u8]) -> i32
+pub fn bradawlet_read(table: &mut [i32], cells: i32, bytes: &[u8]) -> i32
     ensures { ReadGives cells table.old bytes.now result table.new }
 {
     let outcome = read_sheet(table, cells, bytes);
@@ -50,8 +48,7 @@ pub extern "C" fn bradawlet_read(table: &mut [i32], cells: i32, bytes: &[u8]) ->
 }
 
 // Whether the table can be leafed through: 0, or the refusal's number.
-#[unsafe(no_mangle)]
-pub extern "C" fn bradawlet_open(table: &[i32]) -> i32
+pub fn bradawlet_open(table: &[i32]) -> i32
     ensures { Gives (opening_reasons table.now) result }
 {
     opening_number(table)
@@ -92,8 +89,7 @@ fn is_given(next: Next) -> i32
 }
 
 // Gives the next live cell after an identifier, as a sheet record's six numbers: 1, or 0 and zeros where no more are left.
-#[unsafe(no_mangle)]
-pub extern "C" fn bradawlet_next(table: &[i32], last: i32, numbers: &mut [i32; 6]) -> i32
+pub fn bradawlet_next(table: &[i32], last: i32, numbers: &mut [i32; 6]) -> i32
     ensures { NextGives table.now last result numbers.new }
 {
     let next = step_from(table, last);

@@ -10,8 +10,7 @@ use track::cell::Cell;
 use wkt::reading::{TrackRead, read_track};
 
 // Writes a line for each live cell to the first bytes: 0, or the refusal's number.
-#[unsafe(no_mangle)]
-pub extern "C" fn bradawlet_tracks(table: &[i32], bytes: &mut [u8], total: &mut i32) -> i32
+pub fn bradawlet_tracks(table: &[i32], bytes: &mut [u8], total: &mut i32) -> i32
     ensures { TracksGives table.now bytes.old result total.new bytes.new }
 {
     let written = chart(table, bytes);
@@ -39,8 +38,7 @@ fn track_number(read: TrackRead) -> i32
 }
 
 // Gives the cell of a line, with the identifier, as a sheet record's six numbers: 0, or the refusal's number and zeros.
-#[unsafe(no_mangle)]
-pub extern "C" fn bradawlet_read_track(id: i32, line: &[u8], numbers: &mut [i32; 6]) -> i32
+pub fn bradawlet_read_track(id: i32, line: &[u8], numbers: &mut [i32; 6]) -> i32
     ensures { ReadTrackGives id line.now result numbers.new }
 {
     let read = read_track(id, line);
