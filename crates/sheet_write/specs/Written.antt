@@ -51,7 +51,7 @@ pub record Writes (w : List ℤ) (bytes : List ℕ) (total : ℕ) (bytes' : List
   pub total_is : total ≡ total_for (length cells)
   pub written : bytes' ≡ sheet_of (clock w) cells ++ drop total bytes
 
--- what bytes say where they are a sheet of this table: a well_formed sheet of its clock and its live cells
+-- what bytes say where they are a sheet of this table: a well-formed sheet of its clock and its live cells
 pub record SheetOfTable (w : List ℤ) (sheet : List ℕ) : Type 0 where
   pub well_formed : SheetSound most_cells sheet
   pub clock_is : clock_of sheet ≡ clock w

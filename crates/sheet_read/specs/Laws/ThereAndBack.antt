@@ -21,7 +21,7 @@ use Rattle.sheet_read.specs.Inner.ReadingSteps.{CanRead}
 use Rattle.sheet_read.specs.Laws.ReadingSteps.{read_done, accepted_can, read_live}
 use Rattle.tree.specs.declared.outcome.Outcome.{Outcome}
 
--- ---- a well_formed sheet that was read is written as it was, in the first bytes of any buffer that is long enough
+-- ---- a well-formed sheet that was read is written as it was, in the first bytes of any buffer that is long enough
 module _ {cells : ℤ} {w : List ℤ} {bytes : List ℕ} {v : List ℤ} (small : AreBytes bytes) (sheet : SheetSound most_cells bytes) (read : IsRead cells w bytes v) where
   pub read_then_written : {buffer : List ℕ} {total : ℕ} {buffer' : List ℕ} → Writes v buffer total buffer' → (total ≡ length bytes) × (buffer' ≡ bytes ++ drop (length bytes) buffer)
   read_then_written {buffer} {total} {buffer'} p =
