@@ -83,9 +83,7 @@ fn with_full_output(program: &Path) -> io::Result<Child> {
 pub fn closed_output(program: &Path) -> io::Result<bool> {
     let mut unread = start(program)?;
     drop(unread.stdout.take());
-    let ends_unread = fed_until_gone(&mut unread);
-    // The system ends a program that writes to a pipe that nobody reads, so nothing more is asked of it.
-    unread.wait()?;
+    let ends_unread = fed_until_gone(&mut unread) && ended(unread)? == NOT_WRITTEN;
     let mut refused = with_full_output(program)?;
     let ends_refused = fed_until_gone(&mut refused);
     Ok(ends_unread && ends_refused && ended(refused)? == NOT_WRITTEN)
