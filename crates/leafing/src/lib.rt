@@ -1,4 +1,6 @@
 // Leafing through the live cells of a table, by rising identifier.
+#![tactic(auto)]
+
 ghost use Rattle.track.specs.Refusals.{Gives};
 ghost use Rattle.leafing.specs.NextLive.{Steps, opening_reasons};
 ghost use Rattle.leafing.specs.Leafing.{Opens, Moves};

@@ -4,7 +4,6 @@ use Rattle.whole.specs.Lists.{◌∈◌}
 use Rattle.track.specs.Life.{LivesAt}
 use Rattle.track.specs.declared.cell.Cell.{Cell}
 use Rattle.node.specs.Entry.{Entry, cell_of}
-use Rattle.table.specs.Header.{clock}
 use Rattle.table.specs.SoundTree.{Nodes}
 use Rattle.table.specs.Inner.Scan.{leaves_in}
 use Rattle.leafing.specs.NextLive.{NextOf}

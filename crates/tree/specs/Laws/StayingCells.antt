@@ -80,6 +80,7 @@ sum_no_more φ ψ [] each = omega (arith, sum_none φ, sum_none ψ)
 sum_no_more φ ψ (e ∷ l) each = omega (arith, each e (Memᴰ.head refl), sum_no_more φ ψ l (λ x m. each x (Memᴰ.tail m)), sum_cons φ e l, sum_cons ψ e l)
 
 sum_less : (φ ψ : Entry → ℕ) {x : Entry} {l : List Entry} → ((y : Entry) → y ∈ l → φ y ≤ ψ y) → x ∈ l → φ x < ψ x → sum_over φ l < sum_over ψ l
+sum_less φ ψ {x} {l = []} each m less = absurd (Memᴰ.not-nil m)
 sum_less φ ψ {x} {l = e ∷ l} each (Memᴰ.head q) less =
     omega (arith, rw q at less, sum_no_more φ ψ l (λ y m. each y (Memᴰ.tail m)), sum_cons φ e l, sum_cons ψ e l)
 sum_less φ ψ {l = e ∷ l} each (Memᴰ.tail m) less =

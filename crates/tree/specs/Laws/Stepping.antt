@@ -1,5 +1,5 @@
 -- From a sound table, through the changes of its tree, to the sound table that a call leaves.
-use Rattle.std.specs.Prelude.{◌≡◌, refl, ◌⊎◌, List, [], ◌∷◌, ◌++◌, map, ◌+◌, ◌≤◌, ◌<◌, ℤ, length, drop, ◌≤ℤ◌}
+use Rattle.std.specs.Prelude.{◌≡◌, refl, ◌⊎◌, List, [], ◌∷◌, ◌++◌, map, ◌≤◌, ◌<◌, ℤ, length, drop, ◌≤ℤ◌}
 use Rattle.std.proofs.Common.{sym, ap, ◌∙◌, subst, inl, inr, ⊎_elim, arith, length-append}
 use mathlib.Core.List.Memᴰ
 use Rattle.std.proofs.lemmas.List.{map-append, length-map}
