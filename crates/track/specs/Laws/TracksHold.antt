@@ -46,7 +46,7 @@ same_row_eq (a ∷ as') (b ∷ bs) t =
     let h = both_split (same_number_test a b) (same_row as' bs) t in
     ap₂ (λ (z : ℤ) (zs : Row). z ∷ zs) (same_eq a b h.0) (same_row_eq as' bs h.1)
 
--- ---- an interval and a stretch whose ends are the same_number_test fractions
+-- ---- an interval and a stretch whose ends are the same fractions
 times_not_negative : (a b : ℤ) → pos 0 ≤ℤ a → pos 0 ≤ℤ b → pos 0 ≤ℤ (a *ℤ b)
 times_not_negative = all2 _ λ _ _ _ _. simp difs (λ h k. omega (arith, cross h k))
 
@@ -54,7 +54,7 @@ times_not_negative = all2 _ λ _ _ _ _. simp difs (λ h k. omega (arith, cross h
 scaled : (d e x y : ℤ) → pos 1 ≤ℤ d → pos 1 ≤ℤ e → d *ℤ y ≡ e *ℤ x → pos 0 ≤ℤ x → pos 0 ≤ℤ y
 scaled d e x y h k eq n = cancel d y h (rw eq (times_not_negative e x (positive k) n))
 
--- n/d and m/e are the same_number_test: what is not before the one is not before the other, and what is not after it neither
+-- n/d and m/e are the same: what is not before the one is not before the other, and what is not after it neither
 module _ (n d m e : ℤ) (h : pos 1 ≤ℤ d) (k : pos 1 ≤ℤ e) (eq : n *ℤ e ≡ m *ℤ d) (p q : ℤ) where
   low_end : (n *ℤ q) ≤ℤ (p *ℤ d) → (m *ℤ q) ≤ℤ (p *ℤ e)
   low_end l = of_gap _ _ (scaled d e (p *ℤ d -ℤ n *ℤ q) (p *ℤ e -ℤ m *ℤ q) h k (left ∙ rw (← eq) (sym right)) (gap_of _ _ l))

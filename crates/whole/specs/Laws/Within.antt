@@ -106,7 +106,7 @@ read32 t h = back {w = w32} (fits t h)
 pub read64 : {z : ℤ} {bound : ℕ} → T (ltb bound (2 ^ 63)) → Within bound z → to_z w64 (of_z w64 z) ≡ z
 read64 t h = back {w = w64} (fits t h)
 
--- a call's result z, and `c.call.ok` is the fact that it fits
+-- a call's result z, and `c.call.type_inv` is the fact that it fits
 pub word_back : (z : ℤ) → mag z < 2 ^ hbits w32 → to_z w32 (of_z w32 z) ≡ z
 word_back z small = back {w = w32} (record { sfits = small })
 
@@ -117,7 +117,7 @@ neg_read32 {z} t h = ap (λ (y : ℤ). to_z w32 (of_z w32 y)) (+ℤ_idl (neg_ℤ
 pub neg_read64 : {z : ℤ} {bound : ℕ} → T (ltb bound (2 ^ 63)) → Within bound z → to_z w64 (of_z w64 (pos 0 -ℤ z)) ≡ neg_ℤ z
 neg_read64 {z} t h = ap (λ (y : ℤ). to_z w64 (of_z w64 y)) (+ℤ_idl (neg_ℤ z)) ∙ read64 t (neg_in h)
 
--- an element of a slice or an array, read out; `g` is what the read gives, `c.x.given`
+-- an element of a slice or an array, read out; `g` is that what is read fits
 pub read_at : (w : Width) (xs : List ℤ) (i : ℕ) → mag (get_or xs i (pos 0)) < 2 ^ hbits w → to_z w (of_z w (get_or xs i (pos 0))) ≡ get_or xs i (pos 0)
 read_at w xs i g = ValLaws.to_z-of_z w (get_or xs i (pos 0)) (record { sfits = g })
 
