@@ -1,4 +1,6 @@
 // Writing a table's sheet into lent bytes.
+#![tactic(auto)]
+
 ghost use Rattle.table.specs.Sound.{Sound};
 ghost use Rattle.sheet_write.specs.Written.{WritesSheet};
 ghost use Rattle.sheet_write.specs.Inner.Passes.{CellsCounted, CanPutSheet, PutsSheet};
