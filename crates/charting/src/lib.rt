@@ -1,4 +1,6 @@
 // Writing a table's live cells as lines of well-known text into lent bytes.
+#![tactic(auto)]
+
 ghost use Rattle.table.specs.Sound.{Sound};
 ghost use Rattle.charting.specs.Charted.{ChartsTracks};
 ghost use Rattle.charting.specs.Inner.TextPasses.{TextMeasured, CanPutText, PutsText};

@@ -1,4 +1,6 @@
 // Reading a sheet into lent words, which become a table with the sheet's cells.
+#![tactic(auto)]
+
 ghost use Rattle.track.specs.Refusals.{First};
 ghost use Rattle.tree.specs.Steps.{outcome_number};
 ghost use Rattle.sheet_read.specs.Reads.{read_reasons, IsRead, ReadsSheet};
