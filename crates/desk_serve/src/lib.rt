@@ -1,4 +1,6 @@
 // One line of the desk, answered in the bytes of a lent buffer.
+#![tactic(auto)]
+
 ghost use Rattle.std.specs.Prelude.{◌≡◌, ◌≤◌, length};
 ghost use Rattle.desk_answers.specs.AnswerLines.{LineWritten};
 ghost use Rattle.desk_serve.specs.Answered.{longest_line, desk_cells, longest_answer, Answered};
