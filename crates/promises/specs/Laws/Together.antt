@@ -108,8 +108,8 @@ call_together (Chart bytes) a t h = by_number (Chart bytes) (told a) t (λ e. rw
 
 -- and so after any calls
 pub run_together : {m : Model} {w : List ℤ} {calls : List Call} {replies : List Reply} {u : List ℤ} → Together m w → Run w calls replies u → Together (after_all m calls replies) u
-run_together t no_call = t
-run_together t (one_call {c} {a} h run) = run_together (call_together c a t h) run
+run_together {m} t no_call = t
+run_together {m} t (one_call {c} {a} h run) = run_together {m = after m c (told a)} (call_together c a t h) run
 
 -- ---- the size, in the same way
 same_size : {w v : List ℤ} → v ≡ w → Sized w v (capacity_word w)
