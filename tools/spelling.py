@@ -81,7 +81,7 @@ def snake(part):
     """camelCase as snake_case; what begins with a capital is a type or a fact, and keeps it."""
     if not re.match(r"[a-z]", part):
         return part
-    return re.sub(r"(?<=[a-z0-9?'])([A-Z])", lambda m: "_" + m.group(1).lower(), part)
+    return re.sub(r"(?<=[a-z0-9?'A-Z])([A-Z])", lambda m: "_" + m.group(1).lower(), part)
 
 
 def spelled(name, defined):

@@ -41,11 +41,11 @@ use Rattle.calls.specs.ChangeCalls.{ReportGives, DropGives}
 use Rattle.calls.specs.TrackCalls.{TracksGives, ReadTrackGives}
 use Rattle.calls.specs.SheetCalls.{WriteGives, ReadGives, is_given, next_cell, NextGives}
 use Rattle.promises.specs.Happens.{Call, Fresh, Report, Drop, Window, Moving, Open, Leaf, Write, Chart, Read, Reply, Number, Listed, Given, Bytes, told, Happens, Run, reasons_of, ChangesNothing, IsQuery, GoesBack, OnlyReads}
-use Rattle.promises.specs.Model.{Model, Together, after_all, Start, capacity_after, Sized}
+use Rattle.promises.specs.Model.{Model, Together, capacity_after, Sized}
 use Rattle.promises.specs.Laws.Refused.{call_number, only_reads, call_refused, backward}
 use Rattle.promises.specs.Laws.Replies.{total_told, query_lists, query_counts, written_back, read_back, asked_in_numbers, wrote_in_numbers, charted_is, track_given, track_refused, track_accepted, opened_is}
-use Rattle.promises.specs.Laws.Together.{start_together, run_together, call_size, run_length}
-use Rattle.promises.specs.Laws.Same.{model_alike, call_alike, run_alike, reached_alike, exchanged_alike}
+use Rattle.promises.specs.Laws.Together.{call_size}
+use Rattle.promises.specs.Laws.Same.{model_alike, call_alike, exchanged_alike}
 
 -- ==== 1. No input does harm. Whatever words are lent as a table, and whatever else is given, a call is refused exactly when the scope says and by the number
 -- that it says, and a refusal changes nothing.
@@ -100,23 +100,12 @@ pub sheet_written_again_is_the_same : {w v u : List ℤ} {cells : ℤ} {bytes bu
 sheet_written_again_is_the_same small reads room wrote = read_back small reads room wrote
 
 -- ==== 3. A table is what its accepted calls have made of it, and the shape of its tree does not show.
--- After any calls from a fresh table or from a sheet that was read, refused ones among them, the table is sound and has the clock and the live cells of the model:
--- the cells that the last accepted call on each identifier left, as far as they have not expired.
-pub after_any_calls : {m : Model} {v u : List ℤ} {calls : List Call} {replies : List Reply} → Start m v → Run v calls replies u → Together (after_all m calls replies) u
-after_any_calls start run = run_together (start_together start) run
+-- The two theorems that say so of any run of calls rest on what each call makes of the model, and stand in proofs/Demands: `after_any_calls`, and
+-- `same_cells_reply_alike`, that two tables with the same clock and live cells reply alike.
 
 -- The length stands through every call, and so does the capacity, but for an accepted new start, which sets it.
 pub size_stands : {w : List ℤ} (c : Call) (a : Reply) {v : List ℤ} → Happens w c a v → Sized w v (capacity_after (capacity_word w) c (told a))
 size_stands c a happens = call_size c a happens
-
--- Two tables of one length, each after any calls from such a start, that have come to one capacity, one clock and the same live cells, reply alike to every further
--- run of calls, and are alike after it. The count of opened nodes is no part of a reply: it alone may differ, since the trees may.
-pub same_cells_reply_alike : {m m' : Model} {v v' u u' t t' : List ℤ} {calls calls' further : List Call} {before before' replies replies' : List Reply}
-    → Start m v → Run v calls before u → Start m' v' → Run v' calls' before' u'
-    → length v ≡ length v' → capacity_word u ≡ capacity_word u' → clock u ≡ clock u' → ((c : Cell) → Live u c ↔ Live u' c)
-    → Run u further replies t → Run u' further replies' t' → (replies ≡ replies') × Alike t t'
-same_cells_reply_alike start run start' run' long cells clocks live =
-    run_alike (reached_alike start run start' run' cells clocks live) (run_length run ∙ long ∙ sym (run_length run'))
 
 -- So a reply is fixed by the model, the capacity, the length and what is given to the call.
 pub reply_is_fixed : {m : Model} {w w' : List ℤ} → Together m w → Together m w' → capacity_word w ≡ capacity_word w' → length w ≡ length w'

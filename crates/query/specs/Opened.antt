@@ -2,7 +2,7 @@
 use Rattle.std.specs.Prelude.{Bool, false, ℕ, zero, suc, ℤ}
 use mathlib.Core.List.{List, [], ◌∷◌, flat_map}
 use Rattle.track.specs.Meets.{Meets}
-use Rattle.track.specs.Laws.Decides.{meets?}
+use Rattle.track.proofs.Laws.Decides.{meets?}
 use Rattle.track.specs.declared.queries.Query.{Query}
 use Rattle.node.specs.Entry.{Entry, child_of, bounds_of, until_of}
 use Rattle.table.specs.Header.{root, height, entries_at}

@@ -1,12 +1,8 @@
 pub mod Answer
-pub mod TracksHold
 pub mod Hull
 pub mod Accepted
 pub mod Numbers
 pub mod Query
 pub mod Refusals
-pub mod Small
 pub mod Life
-pub mod Cut
-pub mod Decides
 pub mod HullRange

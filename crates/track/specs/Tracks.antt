@@ -62,8 +62,8 @@ instant p q positive = record { p = p; q = q; q_positive = le_z_yes positive }
 abbrev third : Instant
 third = instant (pos 1) (pos 3) tt
 
-abbrev one_and_aHalf : Instant
-one_and_aHalf = instant (pos 3) (pos 2) tt
+abbrev one_and_a_half : Instant
+one_and_a_half = instant (pos 3) (pos 2) tt
 
 -- a cell reported at (x, y) with velocity (vx, vy) at minute 0, with expiry 40
 abbrev from : ℤ → ℤ → ℤ → ℤ → Cell
@@ -82,7 +82,7 @@ moving = query_from (pos 0) (pos 10) (pos 0) (pos 2) (pos 0) (pos 0) (pos 20) (p
 unfoldable pub tracks : List Track
 tracks =
     P 1 (meets_from (from (pos 0) (pos 0) (pos 3) (pos 3)) (point (pos 0) (pos 1) (pos 1) (pos 1)) (third to third)) ∷
-    P 2 (misses_though (from (pos 0) (pos 0) (pos 1) (pos 2)) (window_from (pos 0) (pos 5) (pos 2) (pos 3) (pos 2) (pos 3)) (at_minute (pos 2) to at_minute (pos 3)) (at_minute (pos 1) to one_and_aHalf)) ∷
+    P 2 (misses_though (from (pos 0) (pos 0) (pos 1) (pos 2)) (window_from (pos 0) (pos 5) (pos 2) (pos 3) (pos 2) (pos 3)) (at_minute (pos 2) to at_minute (pos 3)) (at_minute (pos 1) to one_and_a_half)) ∷
     P 3 (misses_though cell7 (point (pos 40) (pos 40) (pos 250) (pos 110)) (at_minute (pos 40) to at_minute (pos 40)) (at_minute (pos 40) to at_minute (pos 40))) ∷
     P 4 (misses cell7 (point (pos 41) (pos 41) (pos 255) (pos 107))) ∷
     P 5 (meets (from (pos 1) (pos 0) (pos 2) (pos 0)) moving) ∷

@@ -1,11 +1,7 @@
-pub mod PartedTree
 pub mod EntryAfresh
 pub mod FirstFree
 pub mod Kept
 pub mod Marked
 pub mod PartChild
-pub mod Puts
 pub mod Shift
-pub mod Way
-pub mod Mend
 pub mod Takes

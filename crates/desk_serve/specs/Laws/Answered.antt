@@ -23,7 +23,7 @@ use Rattle.desk_lines.specs.Lines.{CutInto, last_line}
 use Rattle.desk_lines.specs.Laws.Lines.{cut_once}
 use Rattle.desk_serve.specs.Answered.{longest_line, desk_cells, AnswerLine, QueryLine, OutcomeLine, StepLine, IsLine, FormLine, Answered, Session, no_line, and_line}
 use Rattle.alike.specs.Alike.{Alike}
-use Rattle.alike.specs.Laws.Alike.{query_number, ids_alike, report_alike, drop_alike, fresh_alike, alike_itself, reasons_at}
+use Rattle.alike.proofs.Laws.Alike.{query_number, ids_alike, report_alike, drop_alike, fresh_alike, alike_itself, reasons_at}
 
 -- ---- what a line is
 same_reading : {line : List ℕ} {f g : Line} → ReadsLine line f → ReadsLine line g → f ≡ g

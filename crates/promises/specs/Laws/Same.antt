@@ -8,12 +8,10 @@ use Rattle.leafing.specs.Laws.Search.{next_as}
 use Rattle.words.specs.Words.{nat_of}
 use Rattle.track.specs.Laws.Refusals.{first_fixed, first_as}
 use Rattle.track.specs.Query.{still}
-use Rattle.track.specs.declared.cell.Cell.{Cell}
 use Rattle.track.specs.declared.report.Report as track
 use Rattle.track.specs.declared.queries.Query.{Query}
-use Rattle.table.specs.Header.{capacity_word, clock, words_for}
+use Rattle.table.specs.Header.{capacity_word, words_for}
 use Rattle.table.specs.Fresh.{fresh_reasons}
-use Rattle.table.specs.Sound.{Live}
 use Rattle.query.specs.Queried.{answer_number, answer_hits, Queried}
 use Rattle.query.specs.Laws.Queried.{refused_hits}
 use Rattle.query.specs.declared.answer.Answer.{Answer}
@@ -26,10 +24,10 @@ use Rattle.charting.specs.Laws.Charted.{charted_same}
 use Rattle.sheet_read.specs.Reads.{read_reasons, IsRead}
 use Rattle.tree.specs.Steps.{outcome_number, ReportSteps}
 use Rattle.alike.specs.Alike.{Alike}
-use Rattle.alike.specs.Laws.Alike.{still_alike, query_number, same_found, report_alike, drop_alike, fresh_alike, reports_change_places}
+use Rattle.alike.proofs.Laws.Alike.{still_alike, query_number, same_found, report_alike, drop_alike, fresh_alike, reports_change_places}
 use Rattle.promises.specs.Happens.{Call, Fresh, Report, Drop, Window, Moving, Open, Leaf, Write, Chart, Read, Reply, Number, Listed, Given, Bytes, told, WasMade, WasReported, WasAsked, WasOpened, WasStepped, WasWritten, WasRead, Happens, Run, no_call, one_call}
-use Rattle.promises.specs.Model.{Model, Together, Start}
-use Rattle.promises.specs.Laws.Together.{read_together, start_together, run_together, call_size}
+use Rattle.promises.specs.Model.{Model, Together}
+use Rattle.promises.specs.Laws.Together.{read_together, call_size}
 
 -- two tables that go together with one model, of one capacity, are alike
 pub model_alike : {m : Model} {w v : List ℤ} → capacity_word w ≡ capacity_word v → Together m w → Together m v → Alike w v
@@ -168,17 +166,6 @@ run_alike a long (one_call {c} {a = x} p run) (one_call {a = y} q again) =
     (ap₂ ◌∷◌ here.0 rest.0, rest.1)
 
 -- ---- tables that runs reach
--- from two starts, where clock, live cells and capacity have come out the same
-pub reached_alike : {m m' : Model} {v v' u u' : List ℤ} {calls calls' : List Call} {replies replies' : List Reply} → Start m v → Run v calls replies u → Start m' v' → Run v' calls' replies' u'
-    → capacity_word u ≡ capacity_word u' → clock u ≡ clock u' → ((c : Cell) → Live u c ↔ Live u' c) → Alike u u'
-reached_alike start run start' run' cells clocks live = record {
-  sound = (run_together (start_together start) run).sound;
-  sound' = (run_together (start_together start') run').sound;
-  capacity_is = cells;
-  clock_is = clocks;
-  live = live;
-}
-
 -- by two reports that change places, and what comes after them
 report_done : {r : track.Report} {w v : List ℤ} → WasReported w r (Number 0) v → ReportSteps w r 0 v
 report_done {r} {w} {v} h = subst (λ (n : ℕ). ReportSteps w r n v) (sym (ap told h.reply)) h.steps

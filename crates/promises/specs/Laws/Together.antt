@@ -15,7 +15,7 @@ use Rattle.tree.specs.Steps.{outcome_number, Stays, Step}
 use Rattle.tree.specs.Laws.Steps.{report_late, drop_late}
 use Rattle.sheet_read.specs.Reads.{IsRead}
 use Rattle.promises.specs.Happens.{Call, Fresh, Report, Drop, Window, Moving, Open, Leaf, Write, Chart, Read, Reply, told, Happens, Run, no_call, one_call}
-use Rattle.promises.specs.Model.{Model, Together, fresh, of_sheet, differs, others, accepted, after, after_all, Start, made, read, accepted_capacity, capacity_after, Sized}
+use Rattle.promises.specs.Model.{Model, Together, fresh, of_sheet, differs, others, accepted, after, Start, made, read, accepted_capacity, capacity_after, Sized}
 
 -- ---- cells with other identifiers
 module _ {P : Type 0} where
@@ -105,11 +105,6 @@ call_together Open a t h = by_number Open (told a) t (λ e. rw h.unchanged t) (�
 call_together (Leaf last) a t h = by_number (Leaf last) (told a) t (λ e. rw h.unchanged t) (λ n. h.unchanged)
 call_together (Write bytes) a t h = by_number (Write bytes) (told a) t (λ e. rw h.unchanged t) (λ n. h.unchanged)
 call_together (Chart bytes) a t h = by_number (Chart bytes) (told a) t (λ e. rw h.unchanged t) (λ n. h.unchanged)
-
--- and so after any calls
-pub run_together : {m : Model} {w : List ℤ} {calls : List Call} {replies : List Reply} {u : List ℤ} → Together m w → Run w calls replies u → Together (after_all m calls replies) u
-run_together {m} t no_call = t
-run_together {m} t (one_call {c} {a} h run) = run_together {m = after m c (told a)} (call_together c a t h) run
 
 -- ---- the size, in the same way
 same_size : {w v : List ℤ} → v ≡ w → Sized w v (capacity_word w)

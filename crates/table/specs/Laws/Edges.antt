@@ -11,7 +11,7 @@ use Rattle.whole.specs.Laws.Order.{≤ℤ_trans}
 use Rattle.whole.specs.Laws.Within.{abs_positive}
 use Rattle.track.specs.Numbers.{IsMinute}
 use Rattle.track.specs.Inner.Small.{BoundsInRange}
-use Rattle.track.specs.Laws.Small.{cell_bounds_in}
+use Rattle.track.proofs.Laws.Small.{cell_bounds_in}
 use Rattle.track.specs.Laws.Hull.{Tight, hull_tight, greatest_in}
 use Rattle.track.specs.Inner.HullRange.{RowInRangeAt, BoundsInRangeAt}
 use Rattle.track.specs.Laws.HullRange.{row_later, row_at_zero, tight_in_range, cell_in_range}

@@ -29,7 +29,7 @@ use Rattle.table.specs.Laws.Headed.{headed_same}
 use Rattle.tree_laws.specs.Inner.Wholeness.{Whole}
 use Rattle.tree_laws.specs.Laws.Wholeness.{whole_fresh, whole_used, whole_two, whole_grow, grown_used, whole_mended}
 use Rattle.tree_nodes.specs.Inner.PartChild.{CanPartChild, Parted}
-use Rattle.tree_nodes.specs.Laws.PartedTree.{many, parted_mended}
+use Rattle.tree_nodes.proofs.Laws.PartedTree.{many, parted_mended}
 use Rattle.tree.specs.Inner.Holding.{leaves, Holding, Stands}
 use Rattle.tree.specs.Laws.Holding.{stands_all, stands_then, stands_capacity, stands_ample, kept_stands, headed_stands}
 use Rattle.tree_laws.specs.Laws.Tall.{tall}

@@ -17,7 +17,7 @@ use Rattle.table.specs.SoundTree.{Nodes, is_leaf, NotBefore, EntrySound, TreeSou
 use Rattle.table.specs.Laws.Reach.{in_flat}
 use Rattle.table.specs.Inner.Scan.{SoundIn}
 use Rattle.table.specs.Laws.Scan.{sound_in, in_sound}
-use Rattle.tree_laws.specs.Inner.Weights.{sum_over, SameWeights, weight, visits, Once}
+use Rattle.tree_laws.specs.Inner.Weights.{sum_over, SameWeights, visits, Once}
 use Rattle.tree_laws.specs.Laws.Weights.{sum_none, sum-append, same_refl, same_as, same_sym, same_trans, same_append, same_entries, visits_in, is_node, is_self, is_other, not_other, times_cons, times_none, under, AgreeIn, weight_has, visits_has, visits_child, visits_self, weight_same, visits_same, weight-append, visits-append, weight-under, visits-under, leaves_in_frame, nodes_in_frame, sound_in_frame, sound_part}
 use Rattle.tree_laws.specs.Inner.InnerEntries.{CallStart, Fine, AllInner, Renews}
 use Rattle.tree_laws.specs.Laws.InnerEntries.{InnerIn, in_inner, inner_part, inner_has, inner_under, inner_in_frame}

@@ -6,7 +6,7 @@ use mir.Val.{to_z, of_z}
 use Rattle.whole.specs.Within.{Within}
 use Rattle.whole.specs.Laws.Within.{sub_in, mul_in, fits, back, read64}
 use Rattle.track.specs.Inner.Decides.{gap_at, gap_by}
-use Rattle.track.specs.Laws.Small.{gap_at_in, gap_by_in}
+use Rattle.track.proofs.Laws.Small.{gap_at_in, gap_by_in}
 use Rattle.track.proofs.interval.gap.Goals as goal
 
 module _ (s : goal.After-wide-4) where

@@ -1,6 +1,6 @@
 use Rattle.whole.specs.Laws.Within.{read32}
 use Rattle.track.specs.Laws.Numbers.{minute_in}
-use Rattle.track.specs.Laws.Small.{cell_bounds_in}
+use Rattle.track.proofs.Laws.Small.{cell_bounds_in}
 use Rattle.track.proofs.meeting.cell_meets.Goals as goal
 
 pub meets-requires : goal.meets-requires

@@ -10,8 +10,8 @@ use Rattle.track.specs.Meets.{Bounds, span}
 use Rattle.track.specs.Query.{QueryInRange}
 use Rattle.track.specs.Inner.Cut.{lives_in}
 use Rattle.track.specs.Inner.Small.{Small, BoundsInRange}
-use Rattle.track.specs.Laws.Decides.{interval_on_x, meeting_of, meets_in, meets_law, never_on_x}
-use Rattle.track.specs.Laws.Small.{along_small, whole_small, meeting_small, span_in}
+use Rattle.track.proofs.Laws.Decides.{interval_on_x, meeting_of, meets_in, meets_law, never_on_x}
+use Rattle.track.proofs.Laws.Small.{along_small, whole_small, meeting_small, span_in}
 use Rattle.track.specs.declared.queries.Query.{Query}
 use Rattle.track.proofs.meeting.meets.Goals as goal
 use Rattle.track.proofs.meeting.meets.Goals.{After-along-on_x, After-along-on_both}

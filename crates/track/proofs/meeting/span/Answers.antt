@@ -5,7 +5,7 @@ use mir.Val.{to_z, of_z}
 use Rattle.whole.specs.Within.{Within}
 use Rattle.whole.specs.Laws.Within.{sub_in, fits, read32, read64}
 use Rattle.track.specs.Laws.Numbers.{minute_in}
-use Rattle.track.specs.Laws.Decides.{span_one, span_minutes}
+use Rattle.track.proofs.Laws.Decides.{span_one, span_minutes}
 use Rattle.track.proofs.meeting.span.Goals as goal
 
 module _ (s : goal.After-wide-2) where

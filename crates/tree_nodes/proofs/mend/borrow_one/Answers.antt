@@ -12,7 +12,7 @@ use Rattle.tree_nodes.specs.Laws.Kept.{ample_in}
 use Rattle.tree_nodes.specs.Inner.Shift.{Shifted}
 use Rattle.tree_nodes.specs.Laws.Shift.{dealt_from}
 use Rattle.tree_nodes.specs.Inner.PartChild.{child_at}
-use Rattle.tree_nodes.specs.Laws.Mend.{sibling_low, can_borrow, borrowed, sibling_dealt, can_refresh_sibling, can_refresh_child, child_still, mends_share}
+use Rattle.tree_nodes.proofs.Laws.Mend.{sibling_low, can_borrow, borrowed, sibling_dealt, can_refresh_sibling, can_refresh_child, child_still, mends_share}
 use Rattle.tree_nodes.proofs.mend.borrow_one.Goals as goal
 use Rattle.tree_nodes.proofs.mend.borrow_one.Goals.{After-child_at-child, After-child_at-sibling, After-move_entry, After-refresh, After-refresh-2}
 

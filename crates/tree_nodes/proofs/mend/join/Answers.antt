@@ -13,7 +13,7 @@ use Rattle.tree_nodes.specs.Laws.Shift.{dealt_to}
 use Rattle.tree_nodes.specs.Inner.PartChild.{child_at}
 use Rattle.table.specs.Laws.AtNode.{length_at, changed_at}
 use Rattle.node.specs.Inner.Change.{without}
-use Rattle.tree_nodes.specs.Laws.Mend.{can_give, can_give_last, given, emptied, sibling_dealt, can_refresh_sibling, node_still, has_still, mends_join}
+use Rattle.tree_nodes.proofs.Laws.Mend.{can_give, can_give_last, given, emptied, sibling_dealt, can_refresh_sibling, node_still, has_still, mends_join}
 use Rattle.tree_nodes.proofs.mend.join.Goals as goal
 use Rattle.tree_nodes.proofs.mend.join.Goals.{After-child_at-child, After-child_at-sibling, After-move_entry-2, After-refresh}
 

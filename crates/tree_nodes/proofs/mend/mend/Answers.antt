@@ -8,7 +8,7 @@ use Rattle.table.specs.Laws.ScanParts.{leaf_test}
 use Rattle.tree_nodes.specs.Laws.Kept.{ample_in}
 use Rattle.tree_nodes.specs.Inner.PartChild.{child_at}
 use Rattle.tree_nodes.specs.Inner.Mend.{CanPair}
-use Rattle.tree_nodes.specs.Laws.Mend.{child_low, sibling_low, child_in_range, can_refresh, mends_refresh}
+use Rattle.tree_nodes.proofs.Laws.Mend.{child_low, sibling_low, child_in_range, can_refresh, mends_refresh}
 use Rattle.tree_nodes.proofs.mend.mend.Goals as goal
 use Rattle.tree_nodes.proofs.mend.mend.Goals.{After-child_at-child, Else-count_at-ge-FEWEST, After-beside-b, After-child_at-sibling}
 

@@ -13,7 +13,7 @@ use Rattle.tree_nodes.specs.Inner.EntryAfresh.{entry_above}
 use Rattle.tree_nodes.specs.Laws.Kept.{ample_in}
 use Rattle.tree_nodes.specs.Inner.Way.{CanPutIn, Way}
 use Rattle.tree_nodes.specs.Inner.Puts.{Puts}
-use Rattle.tree_nodes.specs.Laws.Puts.{puts_leaf, can_below, can_refresh, child_in_range, puts_below}
+use Rattle.tree_nodes.proofs.Laws.Puts.{puts_leaf, can_below, can_refresh, child_in_range, puts_below}
 use Rattle.tree_nodes.proofs.put.+put_in.Goals as goal
 use Rattle.tree_nodes.proofs.put.+put_in.Goals.{Then-h-eq0, Else-h-eq0, After-way_down-k, After-put_in, After-refresh}
 

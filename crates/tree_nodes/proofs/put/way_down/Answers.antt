@@ -10,7 +10,7 @@ use Rattle.table.specs.Laws.AtNode.{length_at, at_most}
 use Rattle.tree_nodes.specs.Laws.Kept.{ample_in}
 use Rattle.tree_nodes.specs.Inner.PartChild.{child_at, Parted}
 use Rattle.tree_nodes.specs.Laws.PartChild.{child_low}
-use Rattle.tree_nodes.specs.Laws.Way.{way_straight, can_part_child, way_parted}
+use Rattle.tree_nodes.proofs.Laws.Way.{way_straight, can_part_child, way_parted}
 use Rattle.tree_nodes.proofs.put.way_down.Goals as goal
 use Rattle.tree_nodes.proofs.put.way_down.Goals.{After-best_child-k, After-child_at-child, After-count_at, After-part_child}
 

@@ -9,7 +9,7 @@ use Rattle.track.specs.Meets.{Row, low, high, low_velocity, high_velocity}
 use Rattle.track.specs.Query.{EdgesInRange}
 use Rattle.track.specs.Inner.Decides.{gap_line, along_to}
 use Rattle.track.specs.Inner.Small.{SmallStraight, RowInRange}
-use Rattle.track.specs.Laws.Small.{gap_small, turned_small, cut_small}
+use Rattle.track.proofs.Laws.Small.{gap_small, turned_small, cut_small}
 use Rattle.track.specs.declared.queries.Edges.{Edges}
 use Rattle.track.proofs.interval.Interval.along.Goals as goal
 

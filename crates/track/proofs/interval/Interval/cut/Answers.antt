@@ -6,7 +6,7 @@ use mir.Val.{to_z, of_z}
 use Rattle.whole.specs.Within.{Within}
 use Rattle.whole.specs.Laws.Within.{mul_in, add_in, fits, read64, neg_read64}
 use Rattle.track.specs.Inner.Small.{Small, SmallStraight}
-use Rattle.track.specs.Laws.Cut.{rising_later, rising_same, falling_earlier, falling_same, level_never, level_same}
+use Rattle.track.proofs.Laws.Cut.{rising_later, rising_same, falling_earlier, falling_same, level_never, level_same}
 use Rattle.track.specs.declared.interval.Interval.{Interval}
 use Rattle.track.specs.declared.interval.Straight.{Straight}
 use Rattle.track.proofs.interval.Interval.cut.Goals as goal

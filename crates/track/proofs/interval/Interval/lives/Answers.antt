@@ -5,7 +5,7 @@ use mir.Val.{SFits, to_z, of_z}
 use Rattle.whole.specs.Within.{Within}
 use Rattle.whole.specs.Laws.Within.{mul_in, fits, back, read64}
 use Rattle.track.specs.Inner.Small.{Small}
-use Rattle.track.specs.Laws.Cut.{lives_in_order, lives_never}
+use Rattle.track.proofs.Laws.Cut.{lives_in_order, lives_never}
 use Rattle.track.specs.declared.interval.Interval.{Interval}
 use Rattle.track.proofs.interval.Interval.lives.Goals as goal
 

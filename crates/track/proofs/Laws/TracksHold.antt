@@ -10,9 +10,9 @@ use Rattle.track.specs.Meets.{Instant, InLife, Row, Bounds, MeetsAt, CellMeets, 
 use Rattle.track.specs.Hull.{hull, low_at, high_at, picked, lesser, greater}
 use Rattle.track.specs.Inner.Cut.{cut_to, lives_in}
 use Rattle.track.specs.Laws.Life.{earlier_lives}
-use Rattle.track.specs.Laws.Cut.{Inside, Proper}
+use Rattle.track.proofs.Laws.Cut.{Inside, Proper}
 use Rattle.track.specs.Inner.Decides.{along_to}
-use Rattle.track.specs.Laws.Decides.{whole_of, meets_in, meeting_of, along_law, whole_proper, whole_law, meeting_law, meets_law}
+use Rattle.track.proofs.Laws.Decides.{whole_of, meets_in, meeting_of, along_law, whole_proper, whole_law, meeting_law, meets_law}
 use Rattle.track.specs.Tracks.{Stretch, ◌to◌, During, Throughout, Claim, meets, misses, meets_from, misses_though, keeps, spans, InsideOn, Holds, Track, P, tracks, AllHold}
 use Rattle.track.specs.declared.interval.Interval.{Interval}
 use Rattle.track.specs.declared.queries.Edges.{Edges}

@@ -8,7 +8,7 @@ use Rattle.whole.specs.Tells.{Tells}
 use Rattle.whole.specs.Laws.Tells.{tells_as, failed, decided}
 use Rattle.track.specs.Meets.{Instant, InQuery, Row, low, high, low_velocity, high_velocity, span, edge_at, moved_at, Touches, Bounds, Meets}
 use Rattle.track.specs.Inner.Cut.{cut_to, lives_in}
-use Rattle.track.specs.Laws.Cut.{Inside, Proper, Above, cut_law, lives_law}
+use Rattle.track.proofs.Laws.Cut.{Inside, Proper, Above, cut_law, lives_law}
 use Rattle.track.specs.Inner.Decides.{gap_at, gap_by, along_to}
 use Rattle.track.specs.declared.interval.Interval.{Interval}
 use Rattle.track.specs.declared.queries.Edges.{Edges}

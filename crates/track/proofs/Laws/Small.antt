@@ -12,7 +12,7 @@ use Rattle.track.specs.Query.{EdgesInRange, QueryInRange}
 use Rattle.track.specs.Meets.{Row, Bounds, span, cell_bounds}
 use Rattle.track.specs.Inner.Cut.{cut_to}
 use Rattle.track.specs.Inner.Decides.{gap_at, gap_by, gap_line, turned_line, along_to}
-use Rattle.track.specs.Laws.Decides.{whole_of, meeting_of}
+use Rattle.track.proofs.Laws.Decides.{whole_of, meeting_of}
 use Rattle.track.specs.Life.{CellInRange}
 use Rattle.track.specs.Inner.Small.{RowInRange, BoundsInRange, Small, SmallStraight}
 use Rattle.track.specs.declared.interval.Interval.{Interval}

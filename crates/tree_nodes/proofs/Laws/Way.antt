@@ -7,7 +7,7 @@ use Rattle.tree_laws.specs.Laws.Places.{at_weights}
 use Rattle.tree_nodes.specs.Laws.Kept.{kept_all}
 use Rattle.tree_laws.specs.Laws.Enter.{enter_free, enter_split, put_split}
 use Rattle.tree_nodes.specs.Inner.PartChild.{child_at, CanPartChild, Parted}
-use Rattle.tree_nodes.specs.Laws.PartedTree.{news, child_kept, child_new, two, others, afresh_stay, afresh_go, many, first, last}
+use Rattle.tree_nodes.proofs.Laws.PartedTree.{news, child_kept, child_new, two, others, afresh_stay, afresh_go, many, first, last}
 use Rattle.tree_nodes.specs.Inner.Way.{CanPutIn, Way}
 
 module _ {w : List ℤ} {minute : ℤ} {h i : ℕ} (can : CanPutIn w minute (suc h) i) where

@@ -1,0 +1,4 @@
+pub mod Cut
+pub mod Decides
+pub mod Small
+pub mod TracksHold

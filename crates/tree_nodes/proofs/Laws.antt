@@ -1,0 +1,4 @@
+pub mod Mend
+pub mod PartedTree
+pub mod Puts
+pub mod Way
