@@ -33,6 +33,10 @@ CHOSEN = {
     "leaves_in": "leaves_in_lem",
     "nodes-in": "nodes_in_lem",
     "many-stay": "many_stay_lem",
+    "getD-firstOf": "get_or_first_of",
+    "getD-put-above": "get_or_put_above",
+    "getD-put-below": "get_or_put_below",
+    "get_d_part": "get_or_part",
     "no_cell": "no_cell_left",
     "of-sheet": "of_the_sheet",
     "onX": "interval_on_x",
@@ -45,6 +49,9 @@ CHOSEN = {
     "rest-at-last": "rest_at_last",
     "rowAt-part": "row_at_part",
 }
+
+# What src/ has functions of, under the same name: there it is the function.
+FUNCTIONS = {"no_cell"}
 
 
 def files(root, *endings):
@@ -135,7 +142,8 @@ def respell(text, to):
 
 
 def in_clauses(text, to):
-    """A source: names in clauses and comments, not in strings."""
+    """A source: names in clauses and comments, not in strings, and no function."""
+    to = {old: new for old, new in to.items() if old not in FUNCTIONS}
     parts = re.split(r'(b?"(?:[^"\\]|\\.)*")', text)
     return "".join(p if k % 2 else respell(p, to) for k, p in enumerate(parts))
 

@@ -55,7 +55,7 @@ pub fn bradawlet_open(table: &[i32]) -> i32
 }
 
 // All zeros, where there is no cell.
-pub fn no_cell_left() -> Cell
+pub fn no_cell() -> Cell
     ensures { result ≡ no_cell }
 {
     Cell {
@@ -74,7 +74,7 @@ fn next_cell(next: Next) -> Cell
 {
     match next {
         Next::One(c) => c,
-        Next::None => no_cell_left(),
+        Next::None => no_cell(),
     }
 }
 

@@ -3,7 +3,7 @@ ghost use Rattle.std.specs.Prelude.{◌≡◌, pos};
 ghost use Rattle.wkt.specs.TrackRead.{track_number, track_cell};
 ghost use Rattle.calls.specs.TrackCalls.{TracksGives, ReadTrackGives};
 
-use crate::sheets::{no_cell_left, written_in_numbers};
+use crate::sheets::{no_cell, written_in_numbers};
 use charting::chart;
 use sheet::record::cell_numbers;
 use track::cell::Cell;
@@ -23,7 +23,7 @@ fn track_cell(read: TrackRead) -> Cell
 {
     match read {
         TrackRead::Read(c) => c,
-        TrackRead::Refused(_) => no_cell_left(),
+        TrackRead::Refused(_) => no_cell(),
     }
 }
 

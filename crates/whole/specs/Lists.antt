@@ -1,5 +1,5 @@
 -- What stands in a list: membership, the members that pass a test, and lists in which nothing stands twice.
--- Membership in ++ and in map is of mathlib.Core.List: Memᴰ·append-left, Memᴰ·append-right, List·Memᴰ·append-cases, Memᴰ·map, Memᴰ·of-map.
+-- Membership in ++ and in map is of mathlib.Core.List.Memᴰ: append_left, append_right, append_cases, map, of_map.
 use Rattle.std.specs.Prelude.{Bool, true, false}
 use mathlib.Core.List.{List, [], ◌∷◌, Memᴰ}
 
@@ -22,7 +22,7 @@ unfoldable pub keep : {A : Type 0} → (A → Bool) → List A → List A
 keep test [] = []
 keep test (x ∷ l) = put_if (test x) x (keep test l)
 
--- ---- no element stands twice. (List-as-Nodup of mathlib says so too, of membership without its place; here a member is a place.)
+-- ---- no element stands twice. (`Nodup` of mathlib.Core.List.Membership says so too, of membership without its place; here a member is a place.)
 pub data NoRepeat {A : Type 0} : List A → Type 0 where
   no_repeat_none : NoRepeat []
   no_repeat_cons : {x : A} {l : List A} → (x ∈ l → ⊥) → NoRepeat l → NoRepeat (x ∷ l)

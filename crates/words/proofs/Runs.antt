@@ -7,7 +7,7 @@ use native.Mathlib.Omega.{arith}
 use lib.ListN.{length, get_or, set, length-set}
 use Rattle.words.specs.Parts.{part, put}
 use Rattle.words.specs.Inner.Parts.{CanCopy}
-use Rattle.words.specs.Laws.Parts.{length_part, part_next, get_d_put_below, get_d_put_above, put_none, put_next}
+use Rattle.words.specs.Laws.Parts.{length_part, part_next, get_or_put_below, get_or_put_above, put_none, put_next}
 
 -- of the n elements of a run, the first j are written to the list w from `to` on, which made it t
 pub record RunWritten {A : Type 0} (run : ℕ → List A) (w t : List A) (to n j : ℕ) : Type 0 where
@@ -51,9 +51,9 @@ not_yet_written {w} {from} {to} {n} {j} can so_far d h = rw so_far.is (by (dec_l
     fits = omega (arith, can.to_inside)
 
     by : Dec (from < to) → get_or (put w to j (part w from j)) (from + j) d ≡ get_or w (from + j) d
-    by (yes up) = get_d_put_below w to j (part w from j) (from + j) d fits (omega (arith, can.apart_upward up))
+    by (yes up) = get_or_put_below w to j (part w from j) (from + j) d fits (omega (arith, can.apart_upward up))
     by (no not-up) =
-        get_d_put_above w to j (part w from j) (from + j) d fits (length_part w from j (omega (arith, can.from_inside))) (omega arith)
+        get_or_put_above w to j (part w from j) (from + j) d fits (length_part w from j (omega (arith, can.from_inside))) (omega arith)
 
 pub copied_next : {A : Type 0} {w t : List A} {from to n j : ℕ} → CanCopy w from to n → RunWritten (part w from) w t to n j → (d v : A) → v ≡ get_or t (from + j) d → j < n
     → RunWritten (part w from) w (set t (to + j) v) to n (j + 1)

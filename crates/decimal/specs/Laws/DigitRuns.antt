@@ -6,7 +6,7 @@ use native.Mathlib.Omega.{arith}
 use Rattle.whole.specs.Tells.{Tells}
 use Rattle.whole.specs.Laws.Tells.{tells_both, tells_as, leb_tells}
 use Rattle.words.specs.Parts.{part}
-use Rattle.words.specs.Laws.Parts.{length_part, get_d_part, part_next}
+use Rattle.words.specs.Laws.Parts.{length_part, get_or_part, part_next}
 use Rattle.decimal.specs.Spells.{Digits, no_digits, and_digit}
 use Rattle.decimal.specs.Inner.DigitRuns.{IsDigit, AllDigits, none, and, Stops, DigitsEnd}
 
@@ -97,4 +97,4 @@ module _ (line : List ℕ) (at : ℕ) where
   value_small k h few g = value_below 9 g (omega (arith, length_part line at k h))
 
   pub digit_of : (n k : ℕ) → at + n ≤ length line → AllDigits (part line at n) → k < n → IsDigit (get_or line (at + k) 0)
-  digit_of n k h a below = rw get_d_part at (digit_at a k (omega (arith, length_part line at n h)))
+  digit_of n k h a below = rw get_or_part at (digit_at a k (omega (arith, length_part line at n h)))

@@ -2,7 +2,7 @@
 use Rattle.std.specs.Prelude.{◌≡◌, refl, List, ℕ, ◌+◌, ◌-◌, ℤ, pos, take, drop}
 use Rattle.std.proofs.Common.{ap, ◌∙◌}
 use borrow.Rule.Slice.PartMut.{put_mid}
-use Rattle.words.specs.Laws.Parts.{get_d_put_above}
+use Rattle.words.specs.Laws.Parts.{get_or_put_above}
 use Rattle.words.specs.Layout.{node_words, node_start, InTable, node_at, set_node}
 use Rattle.words.specs.Laws.Layout.{length-set_node, node_same, node_other, header_same, lent_is_node, lent_node}
 use Rattle.node.specs.Entry.{Entry, entry_count_word, entries_of}
@@ -17,7 +17,7 @@ changed_to w i fits {n} c = record {
   still_counted = λ was. rw (node_same w i n fits c.whole) (c.still_counted was);
   others = λ j other. node_other w i n j fits c.whole other;
   before = λ at h. header_same w i n at (pos 0) fits h;
-  behind = λ at h. get_d_put_above w (node_start i) node_words n at (pos 0) fits c.whole h;
+  behind = λ at h. get_or_put_above w (node_start i) node_words n at (pos 0) fits c.whole h;
   same_length = length-set_node w i n fits c.whole;
 }
 

@@ -27,10 +27,10 @@ module _ {A : Type 0} (f : ℕ → A) where
   length_first_of zero = refl
   length_first_of (suc n) = simp length-append (omega (arith, length_first_of n))
 
-  pub get_d_first_of : (n k : ℕ) (d : A) → k < n → get_or (values_to f n) k d ≡ f k
+  pub get_or_first_of : (n k : ℕ) (d : A) → k < n → get_or (values_to f n) k d ≡ f k
   unfolding values_to
-  get_d_first_of zero k d h = absurd (not-suc-le-zero h)
-  get_d_first_of (suc n) k d h = by (λ l. get_d_first_of n k d l) (dec_lt k n)
+  get_or_first_of zero k d h = absurd (not-suc-le-zero h)
+  get_or_first_of (suc n) k d h = by (λ l. get_or_first_of n k d l) (dec_lt k n)
     where
       by : (k < n → get_or (values_to f n) k d ≡ f k) → Dec (k < n) → get_or (values_to f n ++ f n ∷ []) k d ≡ f k
       by below (yes l) = get_or-append (values_to f n) (f n ∷ []) d k (omega (arith, length_first_of n)) ∙ below l
@@ -84,7 +84,7 @@ module _ (node : List ℤ) where
   module _ (k : ℕ) (low : k < entry_count node) where
     pub entry_is : get_or (entries_of node) k [] ≡ entry_at node k
     unfolding entries_of
-    entry_is = get_d_first_of (entry_at node) (entry_count node) k [] low
+    entry_is = get_or_first_of (entry_at node) (entry_count node) k [] low
 
     pub entry_in : entry_at node k ∈ entries_of node
     entry_in = rw entry_is at (at_in (entries_of node) k [] (omega (arith, length-entries_of)))

@@ -2,7 +2,7 @@
 use Rattle.std.specs.Prelude.{◌≡◌, List, ℕ, ◌+◌, ◌-◌, ◌<◌, ◌≤◌, length, get_or, take, drop, set}
 use Rattle.std.proofs.Common.{◌∙◌, arith}
 use borrow.Rule.Slice.PartMut.{put_mid}
-use Rattle.words.specs.Laws.Parts.{length_part, length-put, get_d_part, get_d_put_below, part-put, record_other, part_set_below, lent-part, lent_back}
+use Rattle.words.specs.Laws.Parts.{length_part, length-put, get_or_part, get_or_put_below, part-put, record_other, part_set_below, lent-part, lent_back}
 use Rattle.words.specs.Layout.{header, node_words, own_words, entry_words, full_node, node_start, entry_offset, InTable, node_at, set_node, entry_at, set_entry}
 
 module _ {A : Type 0} where
@@ -21,7 +21,7 @@ module _ {A : Type 0} where
 
   pub header_same : (w : List A) (i : ℕ) (n : List A) (j : ℕ) (d : A) → InTable w i → j < header → get_or (set_node w i n) j d ≡ get_or w j d
   unfolding set_node
-  header_same w i n j d fits h = get_d_put_below w (node_start i) node_words n j d fits (omega arith)
+  header_same w i n j d fits h = get_or_put_below w (node_start i) node_words n j d fits (omega arith)
 
   -- ---- a node past a store in the header
   pub node_past_header : (w : List A) (j : ℕ) (v : A) (i : ℕ) → j < header → node_at (set w j v) i ≡ node_at w i
@@ -48,11 +48,11 @@ module _ {A : Type 0} where
 
       pub own_same : (j : ℕ) (d : A) → j < own_words → get_or (set_entry n k e) j d ≡ get_or n j d
       unfolding set_entry
-      own_same j d h = get_d_put_below n (entry_offset k) entry_words e j d fits (omega arith)
+      own_same j d h = get_or_put_below n (entry_offset k) entry_words e j d fits (omega arith)
 
   pub word_entry_at : (n : List A) (k j : ℕ) (d : A) → j < entry_words → get_or (entry_at n k) j d ≡ get_or n (entry_offset k + j) d
   unfolding entry_at
-  word_entry_at n k j d = get_d_part n (entry_offset k) entry_words j d
+  word_entry_at n k j d = get_or_part n (entry_offset k) entry_words j d
 
   -- ---- node i lent as `&mut w[a..a + NODE_WORDS]`, from its start `a` on
   pub length_lent_node : (w : List A) (i a : ℕ) → a ≡ node_start i → InTable w i → length (take (a + node_words - a) (drop a w)) ≡ node_words

@@ -32,18 +32,18 @@ module _ {A : Type 0} where
   length-put w a k p fits long = simp (length-append, length-take, length-drop) (omega arith)
 
   -- ---- single elements
-  pub get_d_part : (w : List A) (a k j : ℕ) (d : A) → j < k → get_or (part w a k) j d ≡ get_or w (a + j) d
+  pub get_or_part : (w : List A) (a k j : ℕ) (d : A) → j < k → get_or (part w a k) j d ≡ get_or w (a + j) d
   unfolding part
-  get_d_part w a k j d h = rw (get_or-take, get_or-drop)
+  get_or_part w a k j d h = rw (get_or-take, get_or-drop)
 
-  pub get_d_put_below : (w : List A) (a k : ℕ) (p : List A) (j : ℕ) (d : A) → a + k ≤ length w → j < a → get_or (put w a k p) j d ≡ get_or w j d
+  pub get_or_put_below : (w : List A) (a k : ℕ) (p : List A) (j : ℕ) (d : A) → a + k ≤ length w → j < a → get_or (put w a k p) j d ≡ get_or w j d
   unfolding put
-  get_d_put_below w a k p j d fits h =
+  get_or_put_below w a k p j d fits h =
       get_or-append (take a w) (p ++ drop k (drop a w)) d j (omega (arith, length_fore w a (omega arith))) ∙ get_or-take a w j d h
 
-  pub get_d_put_above : (w : List A) (a k : ℕ) (p : List A) (j : ℕ) (d : A) → a + k ≤ length w → length p ≡ k → a + k ≤ j → get_or (put w a k p) j d ≡ get_or w j d
+  pub get_or_put_above : (w : List A) (a k : ℕ) (p : List A) (j : ℕ) (d : A) → a + k ≤ length w → length p ≡ k → a + k ≤ j → get_or (put w a k p) j d ≡ get_or w j d
   unfolding put
-  get_d_put_above w a k p j d fits long h =
+  get_or_put_above w a k p j d fits long h =
       let fore = length_fore w a (omega arith) in
       let at : j ≡ length (take a w) + (length p + (j - (a + k))) = omega arith in
       let back : a + (k + (j - (a + k))) ≡ j = omega arith in

@@ -8,7 +8,7 @@ use Rattle.std.specs.Int.{Width}
 use mir.Val.{SFits, hbits}
 use Rattle.std.proofs.Math.ListN.{get_or-eq_default}
 use Rattle.words.specs.Parts.{part}
-use Rattle.words.specs.Laws.Parts.{part_four, get_d_part, part_whole}
+use Rattle.words.specs.Laws.Parts.{part_four, get_or_part, part_whole}
 use Rattle.words.specs.Words.{word_at, nat_of, row_at, rows_at}
 
 -- ---- a word as a count
@@ -73,7 +73,7 @@ row_at_whole r four = row_at_part r 0 (omega arith) ∙ part_whole r 4 four
 
 -- a row of a part
 pub row_at_in_part : (w : List ℤ) (a k at : ℕ) → at + 4 ≤ k → row_at (part w a k) at ≡ row_at w (a + at)
-row_at_in_part w a k at h = row_at_same (part w a k) w at (a + at) λ j l. get_d_part w a k (at + j) (pos 0) (omega arith) ∙ rw (add_assoc a at j)
+row_at_in_part w a k at h = row_at_same (part w a k) w at (a + at) λ j l. get_or_part w a k (at + j) (pos 0) (omega arith) ∙ rw (add_assoc a at j)
 
 -- ---- two rows
 pub rows_at_in_part : (w : List ℤ) (a k at : ℕ) → at + 8 ≤ k → rows_at (part w a k) at ≡ rows_at w (a + at)
