@@ -1,3 +1,3 @@
 #![tactic(auto)]
 
-// Tables that differ in their trees alone answer every call alike: laws in specs/, and no code.
+// Tables that differ in their trees alone answer every call alike: laws in proofs/, and no code.

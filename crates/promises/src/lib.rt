@@ -1,3 +1,3 @@
 #![tactic(auto)]
 
-// What the contracts of the calls promise together, over whole runs of calls: theorems in specs/, and no code.
+// What the contracts of the calls promise together, over whole runs of calls: theorems in specs/ and proofs/, and no code.
