@@ -2,6 +2,7 @@
 ghost use Rattle.track.specs.Report.{report_from};
 ghost use Rattle.calls.specs.ChangeCalls.{ReportGives, DropGives};
 
+use track::refusal::number_of;
 use track::report::report_from;
 use tree::change::{drop, report};
 
@@ -19,14 +20,12 @@ pub fn bradawlet_report(
     ensures { ReportGives table.old (report_from id x y vx vy minute expiry) result table.new }
 {
     let made = report_from(id, x, y, vx, vy, minute, expiry);
-    let outcome = report(table, made);
-    outcome.number()
+    number_of(report(table, made))
 }
 
 // Takes a live cell out: 0, or the refusal's number.
 pub fn bradawlet_drop(table: &mut [i32], id: i32, minute: i32) -> i32
     ensures { DropGives table.old id minute result table.new }
 {
-    let outcome = drop(table, id, minute);
-    outcome.number()
+    number_of(drop(table, id, minute))
 }

@@ -1,4 +1,5 @@
-// The calls that C and Rust link, on plain numbers and lent words; `calls_c` exports them.
+// The calls that C and Rust link, on plain numbers and lent words; `calls_c` exports them. Each is as the C interface has it: numbers in a
+// row, a refusal as a number, counts and totals through references.
 #![tactic(auto)]
 
 ghost use Rattle.track.specs.Answer.{moving_answers};
@@ -8,12 +9,13 @@ ghost use Rattle.track.specs.Report.{report_from};
 ghost use Rattle.query.specs.Inner.Few.{Few};
 ghost use Rattle.calls.specs.TableCalls.{FreshGives, InNumbers, WindowGives, MovingGives};
 
-use query::answer::Answer;
-use table::fresh::{Made, fresh};
+use query::answer::{Found, NotListed};
+use table::fresh::fresh;
 use track::cell::Cell;
 use track::meeting::answer;
 use track::minute::Minute;
 use track::queries::{Query, query_from, window_from};
+use track::refusal::number_of;
 use track::report::report_from;
 use words::word_of;
 
@@ -57,30 +59,22 @@ pub fn bradawlet_meets_moving(
 pub fn bradawlet_fresh(table: &mut [i32], cells: i32) -> i32
     ensures { FreshGives cells table.old result table.new }
 {
-    match fresh(table, cells) {
-        Made::Fresh => 0,
-        Made::Refused(why) => why.number(),
-    }
+    number_of(fresh(table, cells))
 }
 
-// Hands an answer's counts over, and tells its number.
-fn in_numbers(answer: Answer, hits: &mut i32, opened: &mut i32) -> i32
+// Hands an answer's counts over through references, as the C interface has them, and tells its number.
+fn in_numbers(answer: Result<Found, NotListed>, hits: &mut i32, opened: &mut i32) -> i32
     requires { Few answer }
     ensures { InNumbers answer result hits.new opened.new }
 {
     match answer {
-        Answer::Listed(found) => {
+        Ok(found) => {
             *hits = word_of(found.hits);
             *opened = word_of(found.opened);
             0
         }
-        Answer::TooMany(n) => {
-            *hits = word_of(n);
-            *opened = 0;
-            10
-        }
-        Answer::Refused(why) => {
-            *hits = 0;
+        Err(why) => {
+            *hits = word_of(why.hits());
             *opened = 0;
             why.number()
         }

@@ -1,4 +1,4 @@
-// What C and Rust link: every call of `calls`, with its clauses.
+// What C and Rust link: every call of `calls`, with its clauses, in the forms that the C interface has.
 #![tactic(auto)]
 
 ghost use Rattle.track.specs.Answer.{moving_answers};

@@ -1,14 +1,14 @@
 -- To chart a table is to write its text, its live cells as lines of well-known text: when it is refused, and what is left in the lent bytes. The table is only
 -- read.
-use Rattle.std.specs.Prelude.{◌≡◌, List, [], ◌∷◌, ◌++◌, ℕ, ◌<◌, ℤ, length, drop}
+use Rattle.std.specs.Prelude.{◌≡◌, List, [], ◌∷◌, ◌++◌, ℕ, ◌<◌, ℤ, length, drop, Result}
 use Rattle.track.specs.Refusals.{Reason}
 use Rattle.track.specs.declared.cell.Cell.{Cell}
 use Rattle.table.specs.Header.{clock}
 use Rattle.leafing.specs.Leafed.{LiveCells}
 use Rattle.sheet_write.specs.Written.{table_reasons, WritesTable}
-use Rattle.sheet_write.specs.declared.Written.{Written}
 use Rattle.wkt.specs.Metres.{stands_at}
 use Rattle.wkt.specs.TrackLine.{TrackForm, LineOf}
+use Rattle.track.specs.declared.refusal.Refusal.{Refusal}
 
 -- the lines of these cells, one after the other
 pub data TextOf (clock : ℤ) : List Cell → List ℕ → Type 0 where
@@ -42,5 +42,5 @@ pub record Charts (w : List ℤ) (bytes : List ℕ) (total : ℕ) (bytes' : List
   pub total_is : total ≡ length text
   pub written : bytes' ≡ text ++ drop total bytes
 
-abbrev pub ChartsTracks : List ℤ → List ℕ → Written → List ℕ → Type 0
+abbrev pub ChartsTracks : List ℤ → List ℕ → Result ℕ Refusal → List ℕ → Type 0
 ChartsTracks w bytes = WritesTable w (LongerText (length bytes) w) (Charts w bytes) bytes

@@ -5,8 +5,7 @@ ghost use Rattle.table.specs.Sound.{Sound};
 ghost use Rattle.charting.specs.Charted.{ChartsTracks};
 ghost use Rattle.charting.specs.Inner.TextPasses.{TextMeasured, CanPutText, PutsText};
 
-use leafing::search::{Next, next_of_sound};
-use sheet_write::Written;
+use leafing::live::LiveCells;
 use table::header::clock;
 use table::sound::is_sound;
 use track::refusal::Refusal;
@@ -18,15 +17,11 @@ fn measure(t: &[i32]) -> usize
     ensures { TextMeasured t.now result }
 {
     let minute = clock(t);
-    let mut last = 0;
     let mut total = 0;
-    loop {
-        let Next::One(c) = next_of_sound(t, last) else {
-            return total;
-        };
+    for c in LiveCells::of(t) {
         total += line_length(minute, c);
-        last = c.id;
     }
+    total
 }
 
 // Writes the lines of the live cells one after the other. They have so many bytes in all.
@@ -35,28 +30,24 @@ fn put_lines(t: &[i32], bytes: &mut [u8], total: usize)
     ensures { PutsText t.now bytes.old total bytes.new }
 {
     let minute = clock(t);
-    let mut last = 0;
     let mut at = 0;
-    while at < total {
-        let Next::One(c) = next_of_sound(t, last) else {
-            return;
-        };
+    for c in LiveCells::of(t) {
         at = put_line_at(bytes, at, minute, c);
-        last = c.id;
     }
+    prove_eq!(at, total);
 }
 
 // Writes the text of the live cells to the first bytes. It is measured first, so that a buffer that is too short is left as it was.
-pub fn chart(t: &[i32], bytes: &mut [u8]) -> Written
+pub fn chart(t: &[i32], bytes: &mut [u8]) -> Result<usize, Refusal>
     ensures { ChartsTracks t.now bytes.old result bytes.new }
 {
     if !is_sound(t) {
-        return Written::Refused(Refusal::NotSound);
+        return Err(Refusal::NotSound);
     }
     let total = measure(t);
     if bytes.len() < total {
-        return Written::Refused(Refusal::ShortBytes);
+        return Err(Refusal::ShortBytes);
     }
     put_lines(t, bytes, total);
-    Written::Total(total)
+    Ok(total)
 }

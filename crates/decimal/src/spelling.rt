@@ -8,7 +8,7 @@ fn digit_byte(d: usize) -> u8
     requires { d ≤ 9 }
     ensures { result ≡ 48 + d }
 {
-    48 + d as u8
+    b'0' + d as u8
 }
 
 // Each writer takes the place of its first byte and answers the place past its last.
@@ -16,14 +16,11 @@ pub fn put_text(out: &mut [u8], at: usize, word: &[u8]) -> usize
     requires { at + length word.now ≤ length out.old }
     ensures { Put (TheseBytes word.now) out.old at out.new result }
 {
-    let mut i = 0;
-    while i < word.len() {
-        out[at + i] = word[i];
-        i += 1;
-    }
+    words::put_run(out, at, word);
     at + word.len()
 }
 
+// The library writes a number's digits to a writer, and this is a buffer with a place: so by recursion, since the first is written first.
 pub fn put_decimal(out: &mut [u8], at: usize, n: usize) -> usize
     requires { EndsBy (Decimal n) at (length out.old) }
     ensures { Put (Decimal n) out.old at out.new result }
@@ -42,10 +39,10 @@ pub fn put_signed(out: &mut [u8], at: usize, z: i32) -> usize
     requires { (Within (2 ^ 30) z) × EndsBy (SignedDecimal z) at (length out.old) }
     ensures { Put (SignedDecimal z) out.old at out.new result }
 {
+    let size = words::place(z.abs());
     if 0 <= z {
-        return put_decimal(out, at, words::place(z));
+        return put_decimal(out, at, size);
     }
-    let size = words::place(-z);
     out[at] = b'-';
     put_decimal(out, at + 1, size)
 }

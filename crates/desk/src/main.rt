@@ -1,16 +1,16 @@
 // The desk: lines from standard input, an answer to each on standard output.
 #![tactic(auto)]
 
-ghost use Rattle.std.specs.Prelude.{◌≡◌, ◌-◌, ◌^◌, pos, length};
+ghost use Rattle.std.specs.Prelude.{◌≡◌, ◌-◌, ◌^◌, pos, length, option_copied};
 ghost use Rattle.table.specs.Header.{words_for};
 ghost use Rattle.table.specs.Fresh.{IsFresh};
 ghost use Rattle.desk_serve.specs.Answered.{desk_cells};
 ghost use Rattle.desk_serve.specs.Served.{CanServe};
 ghost use Rattle.desk.specs.Talked.{Talked, Finished, Turned, Ran};
-ghost use Rattle.desk.specs.Inner.Counts.{Moved, IsPrefixLen, clamp_len};
+ghost use Rattle.desk.specs.Inner.Counts.{Moved};
 
-use desk_serve::DESK_CELLS;
 use desk_serve::serving::{end, serve};
+use desk_serve::{DESK_CELLS, LONGEST_LINE};
 use std::io::Read;
 use table::fresh::fresh;
 use words::{HEADER, NODE_WORDS};
@@ -32,7 +32,8 @@ fn say(rt: &HostRuntime, answers: &[u8]) -> bool {
     false
 }
 
-// Answers every line that ends in the piece, and tells whether standard output took every answer. What is held of a line from piece
+// Answers every line that ends in the piece, and tells whether standard output took every answer. A `while`, since each turn goes on by as
+// many bytes as were taken. What is held of a line from piece
 // to piece is counted here alone.
 fn talk(
     rt: &HostRuntime,
@@ -48,20 +49,10 @@ fn talk(
 {
     let mut from = 0;
     while from < piece.len() {
-        let done = serve(
-            &mut *t,
-            &mut *list,
-            &mut *line,
-            *held,
-            &piece[from..],
-            &mut *out,
-        );
-        let place = done.place;
-        let now_held = place.held;
-        let written = place.written;
-        *held = now_held;
+        let done = serve(t, list, line, *held, &piece[from..], out);
+        *held = done.place.held;
         from += done.taken;
-        if !say(rt, &out[..written]) {
+        if !say(rt, &out[..done.place.written]) {
             return false;
         }
     }
@@ -80,60 +71,44 @@ fn finish(
     requires { CanServe list.old line.now held out.old }
     ensures { Finished t.old line.now held t.new }
 {
-    let written = end(t, list, line, held, &mut *out);
+    let written = end(t, list, line, held, out);
     say(rt, &out[..written]);
 }
 
-// What a read answers: below 0 if it failed, else how many bytes it put at the start of the piece, 0 at the end of the input.
-fn read_piece(rt: &HostRuntime, piece: &mut [u8]) -> isize
-    ensures { Moved (length piece.old) result }
+// The bytes that a read puts at the start of the piece, none at the end of the input; `None` where it fails.
+fn read_piece<'a>(rt: &HostRuntime, piece: &'a mut [u8]) -> Option<&'a [u8]>
+    ensures { Moved (length piece.old) (option_copied result) }
 {
-    match rt.stdin().read(piece) {
-        Ok(n) => n as isize,
-        Err(_) => -1,
-    }
+    let n = rt.stdin().read(piece).ok()?;
+    Some(&piece[..n])
 }
 
-// How many bytes of the piece came in: none where the answer is below 0, and never more than there are.
-fn count(got: isize, piece: &[u8]) -> usize
-    ensures in_bounds { IsPrefixLen result piece.now }
-    ensures value { result ≡ clamp_len got (length piece.now) }
-{
-    if got > 0 {
-        (got as usize).min(piece.len())
-    } else {
-        0
-    }
-}
-
-// What a read came to: `got` is its answer, and the piece has the bytes that came in. Tells whether to go on reading. A read that fails
-// is no end of the input: what is held then is no last line.
+// What a read came to. Tells whether to go on reading. A read that fails is no end of the input: what is held then is no last line.
 fn turn(
     rt: &HostRuntime,
     t: &mut [i32],
     list: &mut [i32],
     line: &mut [u8],
     held: &mut usize,
-    got: isize,
-    piece: &[u8],
+    came: Option<&[u8]>,
     out: &mut [u8],
 ) -> bool
     requires { CanServe list.old line.old held.old out.old }
-    ensures { Turned got t.old line.old held.old piece.now t.new line.new held.new result }
+    ensures { Turned (option_copied came.entry) t.old line.old held.old t.new line.new held.new result }
 {
-    if got < 0 {
+    let Some(piece) = came else {
         let _ = eprintln!(rt; "bradawlet: standard input could not be read");
         return false;
-    }
-    let came = count(got, piece);
-    if came == 0 {
+    };
+    if piece.is_empty() {
         finish(rt, t, list, line, *held, out);
         return false;
     }
-    talk(rt, t, list, line, held, &piece[..came], out)
+    talk(rt, t, list, line, held, piece, out)
 }
 
-// A proved loop has to end, and nothing says that the input does: so the turns are counted down, from a number that no run uses up.
+// A proved loop has to end, and nothing says that the input does: so the turns are counted, up to a number that no run comes to. A
+// function's contract fixes it, since no promise of `run` does, and the edit `stops_after_65535_reads` is refused by that.
 fn most_turns() -> u64
     ensures { result ≡ 2 ^ 64 - 1 }
 {
@@ -153,15 +128,11 @@ fn run(
     requires { (CanServe list.old line.old held.old out.old) × (held.old ≡ 0) }
     ensures { Ran t.old line.old held.old t.new line.new held.new }
 {
-    let mut turns = most_turns();
-    while turns > 0 {
-        let got = read_piece(rt, &mut *piece);
-        if !turn(
-            rt, &mut *t, &mut *list, &mut *line, &mut *held, got, piece, &mut *out,
-        ) {
+    for _ in 0..most_turns() {
+        let came = read_piece(rt, piece);
+        if !turn(rt, t, list, line, held, came, out) {
             return;
         }
-        turns -= 1;
     }
 }
 
@@ -170,13 +141,13 @@ fn begin(t: &mut [i32])
     requires { length t.old ≡ words_for desk_cells }
     ensures { IsFresh (pos desk_cells) t.old t.new }
 {
-    fresh(t, CAPACITY);
+    fresh(t, CAPACITY).unwrap();
 }
 
 fn main(rt: HostRuntime) {
     let mut table = [0i32; TABLE_WORDS];
     let mut list = [0i32; DESK_CELLS];
-    let mut line = [0u8; 129];
+    let mut line = [0u8; LONGEST_LINE + 1];
     let mut held = 0;
     let mut piece = [0u8; PIECE];
     let mut out = [0u8; PIECE];

@@ -15,20 +15,19 @@ pub const HITS_ROOM: usize = 16;
 
 pub const FIELD_ROOM: usize = 11;
 
-fn put_list(out: &mut [u8], at: usize, list: &[i32], count: usize) -> usize
-    requires { (count ≤ length list.now) × (at + 11 * count ≤ length out.old) }
-    ensures { (Put (Spaced (take count list.now)) out.old at out.new result) × (result ≤ at + 11 * count) }
+fn put_list(out: &mut [u8], at: usize, list: &[i32]) -> usize
+    requires { at + 11 * length list.now ≤ length out.old }
+    ensures { (Put (Spaced list.now) out.old at out.new result) × (result ≤ at + 11 * length list.now) }
 {
     let mut end = at;
-    let mut k = 0;
-    while k < count {
+    for id in list {
         out[end] = b' ';
-        end = put_decimal(out, end + 1, words::place_at(list, k));
-        k += 1;
+        end = put_decimal(out, end + 1, words::place(*id));
     }
     end
 }
 
+// Each line's function tests for room itself: one place for the test would take the writing as a closure, with clauses for it.
 fn spell_word(out: &mut [u8], word: &[u8]) -> usize
     ensures { Spelt (length word.now) (TheseBytes word.now) out.old out.new result }
 {
@@ -38,6 +37,7 @@ fn spell_word(out: &mut [u8], word: &[u8]) -> usize
     put_text(out, 0, word)
 }
 
+// Each word has its function: with `spell_word` alone, whoever answers would write the bytes of the word.
 pub fn spell_ok(out: &mut [u8]) -> usize
     ensures { Spelt 3 (λ line. line ≡ ok_line) out.old out.new result }
 {
@@ -50,7 +50,7 @@ pub fn spell_bad(out: &mut [u8]) -> usize
     spell_word(out, b"bad\n")
 }
 
-// A refusal's number.
+// A refusal's number, as a line has it: a report's refusal and a query's are of two types, and each gives one.
 pub fn spell_no(out: &mut [u8], number: i32) -> usize
     ensures { Spelt 14 (NoLine number) out.old out.new result }
 {
@@ -62,16 +62,16 @@ pub fn spell_no(out: &mut [u8], number: i32) -> usize
     put_text(out, end, b"\n")
 }
 
-// The first `hits` identifiers of the list.
-pub fn spell_hits(out: &mut [u8], list: &[i32], hits: usize) -> usize
-    requires { (hits ≤ length list.now) × (hits < 2 ^ 31) }
-    ensures { Spelt (16 + 11 * hits) (HitsLine (take hits list.now)) out.old out.new result }
+// How many identifiers there are, and each of them.
+pub fn spell_hits(out: &mut [u8], hits: &[i32]) -> usize
+    requires { length hits.now < 2 ^ 31 }
+    ensures { Spelt (16 + 11 * length hits.now) (HitsLine hits.now) out.old out.new result }
 {
-    if out.len() < HITS_ROOM + FIELD_ROOM * hits {
+    if out.len() < HITS_ROOM + FIELD_ROOM * hits.len() {
         return 0;
     }
     let at = put_text(out, 0, b"hits ");
-    let fields = put_decimal(out, at, hits);
-    let end = put_list(out, fields, list, hits);
+    let fields = put_decimal(out, at, hits.len());
+    let end = put_list(out, fields, hits);
     put_text(out, end, b"\n")
 }

@@ -1,10 +1,10 @@
 -- Which lines of bytes, without their line feed, are which form, and what their numbers say.
-use Rattle.std.specs.Prelude.{◌≡◌, ◌⊎◌, List, [], ◌∷◌, ◌++◌, ℕ, ℤ}
+use Rattle.std.specs.Prelude.{◌≡◌, Option, Some, List, [], ◌∷◌, ◌++◌, ℕ, ℤ}
 use Rattle.track.specs.Query.{window_from, query_from}
 use Rattle.track.specs.Report.{report_from}
 use Rattle.decimal.specs.Spells.{Spells}
 use Rattle.desk_lines.specs.declared.Line.{Line}
-use Rattle.desk_lines.specs.declared.Line.TheVariants.{Cell, Drop, When, Move, Bad}
+use Rattle.desk_lines.specs.declared.Line.TheVariants.{Cell, Drop, When, Move}
 
 -- for each number one space and a spelling of it
 pub data Fields : List ℤ → List ℕ → Type 0 where
@@ -30,8 +30,8 @@ when_word = 119 ∷ 104 ∷ 101 ∷ 110 ∷ []
 abbrev pub move_word : List ℕ
 move_word = 109 ∷ 111 ∷ 118 ∷ 101 ∷ []
 
--- which form a line is, with what its numbers say. Bad is no form: a line is bad where nothing here makes it one, as with two spaces together,
--- a space at either end, a tab, a plus, ten digits, a field too few or too many, or a capital letter
+-- which form a line is, with what its numbers say. A line is bad where nothing here makes it one, as with two spaces together, a space at
+-- either end, a tab, a plus, ten digits, a field too few or too many, or a capital letter
 pub data IsForm : Line → List ℕ → Type 0 where
   -- cell id x y vx vy minute expiry
   cell : {line : List ℕ} {id x y vx vy minute expiry : ℤ} → Form cell_word (id ∷ x ∷ y ∷ vx ∷ vy ∷ minute ∷ expiry ∷ []) line
@@ -46,7 +46,7 @@ pub data IsForm : Line → List ℕ → Type 0 where
       → Form move_word (start ∷ end ∷ xlow ∷ xhigh ∷ ylow ∷ yhigh ∷ xlow2 ∷ xhigh2 ∷ ylow2 ∷ yhigh2 ∷ []) line
       → IsForm (Move (query_from start end xlow xhigh ylow yhigh xlow2 xhigh2 ylow2 yhigh2)) line
 
--- what reading a line answers: the form that it is, with its numbers, and Bad where it is none
-pub record ReadsLine (line : List ℕ) (r : Line) : Type 0 where
-  pub right : (r ≡ Bad) ⊎ IsForm r line
-  pub only : (f : Line) → IsForm f line → f ≡ r
+-- what reading a line answers: the form that it is, with its numbers, and nothing where it is none
+pub record ReadsLine (line : List ℕ) (r : Option Line) : Type 0 where
+  pub right : (f : Line) → r ≡ Some f → IsForm f line
+  pub only : (f : Line) → IsForm f line → r ≡ Some f

@@ -5,7 +5,7 @@ ghost use Rattle.std.specs.Prelude.{◌≡◌};
 ghost use Rattle.desk_lines.specs.Forms.{ReadsLine};
 ghost use Rattle.desk_lines.specs.Inner.Numbered.{report_of, drop_of, window_of, moving_of};
 
-use crate::field::is_form;
+use crate::field::form;
 use track::queries::{Query, query_from, window_from};
 use track::report::Report;
 
@@ -25,63 +25,75 @@ pub enum Line {
     Drop(DropNumbers),
     When(Query),
     Move(Query),
-    Bad,
 }
 
-fn report_of(n: [i32; 7]) -> Report
-    ensures { result ≡ report_of n }
-{
-    Report {
-        id: n[0],
-        x: n[1],
-        y: n[2],
-        vx: n[3],
-        vy: n[4],
-        minute: n[5],
-        expiry: n[6],
+impl From<[i32; 2]> for DropNumbers {
+    ghost from_gives = { λ n d. d ≡ drop_of n };
+
+    fn from(n: [i32; 2]) -> DropNumbers {
+        let [id, minute] = n;
+        DropNumbers { id, minute }
     }
 }
 
-fn drop_of(n: [i32; 2]) -> DropNumbers
-    ensures { result ≡ drop_of n }
+// No `From` for these: an impl of another crate's trait must name a type of this crate, and Report and Query are of track.
+fn report_of(n: [i32; 7]) -> Report
+    ensures { result ≡ report_of n }
 {
-    DropNumbers {
-        id: n[0],
-        minute: n[1],
+    let [id, x, y, vx, vy, minute, expiry] = n;
+    Report {
+        id,
+        x,
+        y,
+        vx,
+        vy,
+        minute,
+        expiry,
     }
 }
 
 fn window_of(n: [i32; 6]) -> Query
     ensures { result ≡ window_of n }
 {
-    window_from(n[0], n[1], n[2], n[3], n[4], n[5])
+    let [start, end, xlow, xhigh, ylow, yhigh] = n;
+    window_from(start, end, xlow, xhigh, ylow, yhigh)
 }
 
 fn moving_of(n: [i32; 10]) -> Query
     ensures { result ≡ moving_of n }
 {
-    query_from(n[0], n[1], n[2], n[3], n[4], n[5], n[6], n[7], n[8], n[9])
+    let [
+        start,
+        end,
+        xlow,
+        xhigh,
+        ylow,
+        yhigh,
+        xlow2,
+        xhigh2,
+        ylow2,
+        yhigh2,
+    ] = n;
+    query_from(
+        start, end, xlow, xhigh, ylow, yhigh, xlow2, xhigh2, ylow2, yhigh2,
+    )
 }
 
-// A line without its line feed.
-pub fn read(line: &[u8]) -> Line
+// A line without its line feed; `None` where it has none of the forms.
+pub fn read(line: &[u8]) -> Option<Line>
     ensures { ReadsLine line.now result }
 {
-    let mut cell = [0i32; 7];
-    if is_form(line, b"cell", &mut cell) {
-        return Line::Cell(report_of(cell));
+    if let Some(n) = form(line, b"cell") {
+        return Some(Line::Cell(report_of(n)));
     }
-    let mut drop = [0i32; 2];
-    if is_form(line, b"drop", &mut drop) {
-        return Line::Drop(drop_of(drop));
+    if let Some(n) = form(line, b"drop") {
+        return Some(Line::Drop(DropNumbers::from(n)));
     }
-    let mut window = [0i32; 6];
-    if is_form(line, b"when", &mut window) {
-        return Line::When(window_of(window));
+    if let Some(n) = form(line, b"when") {
+        return Some(Line::When(window_of(n)));
     }
-    let mut moving = [0i32; 10];
-    if is_form(line, b"move", &mut moving) {
-        return Line::Move(moving_of(moving));
+    if let Some(n) = form(line, b"move") {
+        return Some(Line::Move(moving_of(n)));
     }
-    Line::Bad
+    None
 }

@@ -19,20 +19,20 @@ pub mod stepping;
 // The cells that the desk's table has room for, and the places of its list.
 pub const DESK_CELLS: usize = 256;
 
-const LONGEST_LINE: usize = 128;
+// The bytes of the longest line, without its line feed.
+pub const LONGEST_LINE: usize = 128;
 
 // A line without its line feed.
 fn answer_line(t: &mut [i32], list: &mut [i32], line: &[u8], out: &mut [u8]) -> usize
     requires { (length list.old ≡ desk_cells) × (length line.now ≤ longest_line) × (longest_answer ≤ length out.old) }
     ensures { LineWritten (Answered t.old line.now t.new) out.old out.new result }
 {
-    let form = read(line);
-    match form {
-        Line::Cell(r) => answer_cell(t, r, out),
-        Line::Drop(d) => answer_drop(t, d, out),
-        Line::When(q) => answer_when(t, list, q, out),
-        Line::Move(q) => answer_move(t, list, q, out),
-        Line::Bad => spell_bad(out),
+    match read(line) {
+        Some(Line::Cell(r)) => answer_cell(t, r, out),
+        Some(Line::Drop(d)) => answer_drop(t, d, out),
+        Some(Line::When(q)) => answer_when(t, list, q, out),
+        Some(Line::Move(q)) => answer_move(t, list, q, out),
+        None => spell_bad(out),
     }
 }
 

@@ -8,7 +8,7 @@ use crate::{DESK_CELLS, answer_held};
 use desk_answers::{FIELD_ROOM, HITS_ROOM};
 use desk_lines::feed::keep_byte;
 
-const LINE_FEED: u8 = 10;
+const LINE_FEED: u8 = b'\n';
 
 const LONGEST_ANSWER: usize = HITS_ROOM + FIELD_ROOM * DESK_CELLS;
 
@@ -36,17 +36,16 @@ fn take_byte(
     requires { (length list.old ≡ desk_cells) × (length buffer.old ≡ longest_line + 1) × (at.held ≤ length buffer.old) × (at.written + longest_answer ≤ length out.old) }
     ensures { TakesByte b t.old buffer.old at.held out.old at.written t.new buffer.new result.held out.new result.written }
 {
-    let written = at.written;
     if b != LINE_FEED {
         return Place {
             held: keep_byte(buffer, at.held, b),
-            written,
+            ..at
         };
     }
-    let n = answer_held(t, list, buffer, at.held, &mut out[written..]);
+    let n = answer_held(t, list, buffer, at.held, &mut out[at.written..]);
     Place {
         held: 0,
-        written: written + n,
+        written: at.written + n,
     }
 }
 
@@ -63,23 +62,16 @@ pub fn serve(
     ensures { Serves t.old buffer.old held piece.now out.old t.new buffer.new result.place.held out.new result.taken result.place.written }
 {
     let mut place = Place { held, written: 0 };
-    let mut i = 0;
-    while i < piece.len() {
-        let written = place.written;
-        if out.len() - written < LONGEST_ANSWER {
+    for (i, b) in piece.iter().enumerate() {
+        if out.len() - place.written < LONGEST_ANSWER {
             return Progress { taken: i, place };
         }
-        place = take_byte(
-            &mut *t,
-            &mut *list,
-            &mut *buffer,
-            &mut *out,
-            place,
-            piece[i],
-        );
-        i += 1;
+        place = take_byte(t, list, buffer, out, place, *b);
     }
-    Progress { taken: i, place }
+    Progress {
+        taken: piece.len(),
+        place,
+    }
 }
 
 // What is held when the input ends is a line, if there is any.

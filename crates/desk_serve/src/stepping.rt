@@ -1,22 +1,23 @@
 // Reports and drops, answered in words.
 ghost use Rattle.std.specs.Prelude.{◌≤◌, length};
-ghost use Rattle.tree.specs.Steps.{ReportSteps, DropSteps, outcome_number};
+ghost use Rattle.tree.specs.Steps.{ReportSteps, DropSteps};
+ghost use Rattle.track.specs.Refusals.{number_of};
 ghost use Rattle.desk_answers.specs.AnswerLines.{LineWritten};
 ghost use Rattle.desk_serve.specs.Answered.{longest_answer, OutcomeLine, StepLine};
 
 use desk_answers::{spell_no, spell_ok};
 use desk_lines::DropNumbers;
+use track::refusal::Refusal;
 use track::report::Report;
 use tree::change::{drop, report};
-use tree::outcome::Outcome;
 
-fn tell_outcome(outcome: Outcome, out: &mut [u8]) -> usize
+fn tell_outcome(outcome: Result<(), Refusal>, out: &mut [u8]) -> usize
     requires { longest_answer ≤ length out.old }
-    ensures { LineWritten (OutcomeLine (outcome_number outcome)) out.old out.new result }
+    ensures { LineWritten (OutcomeLine (number_of outcome)) out.old out.new result }
 {
     match outcome {
-        Outcome::Accepted => spell_ok(out),
-        Outcome::Refused(why) => spell_no(out, why.number()),
+        Ok(()) => spell_ok(out),
+        Err(why) => spell_no(out, why.number()),
     }
 }
 

@@ -1,2 +1,4 @@
 pub mod Search
+pub mod CellsLeft
+pub mod LiveStep
 pub mod LeafingList

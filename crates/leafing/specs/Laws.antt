@@ -1,7 +1,9 @@
 pub mod NextLive
+pub mod CellsLeft
 pub mod Leafed
 pub mod LiveCells
 pub mod CellsPassed
+pub mod LiveStep
 pub mod Leafing
 pub mod Through
 pub mod LeafingList

@@ -1,6 +1,6 @@
--- Leafing through a table from its opening until none is left: the number that is given, how many cells there are, and what the lent list holds afterwards.
+-- Leafing through a table from its opening until none is leftwhat comes of it, how many cells there are, and what the lent list holds afterwards.
 use Rattle.std.specs.Prelude.{◌≡◌, List, [], ◌∷◌, ◌++◌, ℕ, ◌*◌, ◌<◌, ℤ, pos, length, drop}
-use Rattle.track.specs.Refusals.{Reason, ◌when◌, Gives}
+use Rattle.track.specs.Refusals.{Reason, ◌when◌, First, number_of}
 use Rattle.track.specs.declared.cell.Cell.{Cell}
 use Rattle.table.specs.Sound.{Sound}
 use Rattle.sheet.specs.Sheet.{cell_numbers}
@@ -24,7 +24,7 @@ through_reasons w cells list = 1 when (Sound w → ⊥) ∷ 10 when (length list
 pub record LeafsThrough (w list : List ℤ) (r : Listed) (list' : List ℤ) : Type 0 where
   pub cells : List Cell
   pub leafed : Leafed w (pos 0) cells
-  pub number_is : Gives (through_reasons w cells list) r.number
+  pub refusal : First (through_reasons w cells list) (number_of r.outcome)
   pub count : r.cells ≡ length cells
-  pub listed : r.number ≡ pos 0 → list' ≡ numbers_of cells ++ drop (record_numbers * length cells) list
-  pub unchanged : (r.number ≡ pos 0 → ⊥) → list' ≡ list
+  pub listed : number_of r.outcome ≡ 0 → list' ≡ numbers_of cells ++ drop (record_numbers * length cells) list
+  pub unchanged : (number_of r.outcome ≡ 0 → ⊥) → list' ≡ list

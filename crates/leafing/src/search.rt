@@ -1,6 +1,6 @@
 // The search for the next live cell.
 ghost use Rattle.std.specs.Prelude.{◌≡◌, [], ◌∷◌, drop};
-ghost use Rattle.track.specs.Refusals.{Gives};
+ghost use Rattle.track.specs.Refusals.{First, number_of};
 ghost use Rattle.table.specs.Header.{entries_at};
 ghost use Rattle.table.specs.Sound.{Sound};
 ghost use Rattle.table.specs.Inner.Walk.{CanWalk};
@@ -14,13 +14,6 @@ use table::sound::is_sound;
 use track::cell::Cell;
 use track::refusal::Refusal;
 
-// The next cell, or none where no more are left.
-#[derive(Clone, Copy)]
-pub enum Next {
-    One(Cell),
-    None,
-}
-
 // What is looked for: cells that live at the clock, with an identifier above the last.
 #[derive(Clone, Copy)]
 pub struct Sought {
@@ -29,7 +22,7 @@ pub struct Sought {
 }
 
 // Of the best until now and one cell more, that which comes next: the one with the lower identifier, if the cell is sought at all.
-fn lower(s: Sought, best: Next, c: Cell) -> Next
+fn lower(s: Sought, best: Option<Cell>, c: Cell) -> Option<Cell>
     ensures { Extends s (c ∷ []) best result }
 {
     let in_life = s.clock < c.expiry.at;
@@ -37,14 +30,21 @@ fn lower(s: Sought, best: Next, c: Cell) -> Next
     if !(in_life & above) {
         return best;
     }
-    let Next::One(b) = best else {
-        return Next::One(c);
+    let Some(b) = best else {
+        return Some(c);
     };
-    if b.id <= c.id { best } else { Next::One(c) }
+    if b.id <= c.id { best } else { Some(c) }
 }
 
 // The best of what was found until now and of the cells beneath node i, which has h levels beneath it, from its entry k on.
-fn lowest_beneath(t: &[i32], s: Sought, h: usize, i: usize, k: usize, best: Next) -> Next
+fn lowest_beneath(
+    t: &[i32],
+    s: Sought,
+    h: usize,
+    i: usize,
+    k: usize,
+    best: Option<Cell>,
+) -> Option<Cell>
     requires { CanWalk t.now h i }
     ensures { Looks (entries_at t.now) s h (drop k (entries_at t.now i)) best result }
 {
@@ -61,7 +61,7 @@ fn lowest_beneath(t: &[i32], s: Sought, h: usize, i: usize, k: usize, best: Next
 }
 
 // The live cell of a sound table with the least identifier above the last.
-pub fn next_of_sound(t: &[i32], last: i32) -> Next
+pub fn next_of_sound(t: &[i32], last: i32) -> Option<Cell>
     requires { Sound t.now }
     ensures { NextLive t.now last result }
 {
@@ -69,35 +69,33 @@ pub fn next_of_sound(t: &[i32], last: i32) -> Next
         clock: clock(t),
         last,
     };
-    lowest_beneath(t, s, height(t), root(t), 0, Next::None)
+    lowest_beneath(t, s, height(t), root(t), 0, None)
 }
 
 // The same over any words: those that are no sound table have no next cell.
-pub fn next_live(t: &[i32], last: i32) -> Next
+pub fn next_live(t: &[i32], last: i32) -> Option<Cell>
     ensures { Steps t.now last result }
 {
     if !is_sound(t) {
-        return Next::None;
+        return None;
     }
     next_of_sound(t, last)
 }
 
-// The number of an opening over these words: 0, or the refusal's.
-pub fn opening(t: &[i32]) -> i32
-    ensures { Gives (opening_reasons t.now) result }
+// What comes of an opening over these words.
+pub fn opening(t: &[i32]) -> Result<(), Refusal>
+    ensures { First (opening_reasons t.now) (number_of result) }
 {
     if is_sound(t) {
-        return 0;
+        Ok(())
+    } else {
+        Err(Refusal::NotSound)
     }
-    Refusal::NotSound.number()
 }
 
 // The identifier that a leafing goes on from after a step.
-pub fn last_after(r: Next, last: i32) -> i32
+pub fn last_after(r: Option<Cell>, last: i32) -> i32
     ensures { result ≡ last_after r last }
 {
-    match r {
-        Next::One(c) => c.id,
-        Next::None => last,
-    }
+    r.map_or(last, |c| c.id)
 }

@@ -5,9 +5,9 @@
 use leafing::through::{Listed, RECORD_NUMBERS, leaf_through};
 use std::io;
 use table::fresh::fresh;
+use track::refusal::number_of;
 use track::report::report_from;
 use tree::change::{drop, report};
-use words::place;
 
 // Each row is a report: identifier, x, y, velocities, minute, expiry. Ten cells are more than a node holds. At minute 12 cell 6 is
 // replaced; cell 2 is past its expiry, and cell 5 is at it, and so lives no more.
@@ -26,55 +26,24 @@ const REPORTS: [[i32; 7]; 11] = [
 ];
 
 fn report_all(t: &mut [i32]) {
-    let reports = REPORTS;
-    let mut k = 0;
-    while k < 11 {
-        let r = reports[k];
-        report(
-            &mut *t,
-            report_from(r[0], r[1], r[2], r[3], r[4], r[5], r[6]),
-        );
-        k += 1;
-    }
-}
-
-fn print_text(rt: &HostRuntime, text: &[u8]) -> io::Result<()> {
-    rt.write_all(text)
-}
-
-fn print_decimal(rt: &HostRuntime, n: u64) -> io::Result<()> {
-    rt.print(n)
-}
-
-fn print_number(rt: &HostRuntime, z: i32) -> io::Result<()> {
-    if z < 0 {
-        print_text(rt, b"-")?;
-        print_decimal(rt, place(-1 - z) as u64 + 1)
-    } else {
-        print_decimal(rt, place(z) as u64)
+    for [id, x, y, vx, vy, minute, expiry] in REPORTS {
+        let _ = report(t, report_from(id, x, y, vx, vy, minute, expiry));
     }
 }
 
 // The number that was given, and how many cells.
 fn print_answer(rt: &HostRuntime, listed: Listed) -> io::Result<()> {
-    print_text(rt, b"number ")?;
-    print_number(rt, listed.number)?;
-    print_text(rt, b", cells ")?;
-    print_decimal(rt, listed.cells as u64)?;
-    print_text(rt, b"\n")
+    println!(rt;
+        "number {}, cells {}",
+        number_of(listed.outcome),
+        listed.cells
+    )
 }
 
 // A line for each record: identifier, kept x, x velocity, kept y, y velocity, expiry.
 fn print_records(rt: &HostRuntime, list: &[i32]) -> io::Result<()> {
-    let mut j = 0;
-    while j < list.len() {
-        print_number(rt, list[j])?;
-        j += 1;
-        if j % RECORD_NUMBERS == 0 {
-            print_text(rt, b"\n")?;
-        } else {
-            print_text(rt, b" ")?;
-        }
+    for [id, x, vx, y, vy, expiry] in list.as_chunks::<RECORD_NUMBERS>().0 {
+        println!(rt; "{id} {x} {vx} {y} {vy} {expiry}")?;
     }
     Ok(())
 }
@@ -84,9 +53,9 @@ fn main(rt: HostRuntime) -> io::Result<()> {
     let mut table = [0i32; 880];
     let mut list = [0i32; 42];
     let mut short = [0i32; 41];
-    fresh(&mut table, 16);
+    let _ = fresh(&mut table, 16);
     report_all(&mut table);
-    drop(&mut table, 9, 12);
+    let _ = drop(&mut table, 9, 12);
     print_answer(&rt, leaf_through(&table, &mut list))?;
     print_records(&rt, &list)?;
     print_answer(&rt, leaf_through(&table, &mut short))?;

@@ -14,16 +14,14 @@ use words::{FULL_NODE, entry_offset, place, place_at, rows, word};
 pub fn count(node: &[i32]) -> usize
     ensures { result ≡ entry_count node.now }
 {
-    let n = place_at(node, 0);
-    if n < FULL_NODE { n } else { FULL_NODE }
+    place_at(node, 0).min(FULL_NODE)
 }
 
 // Whether the word for the count is one.
 pub fn is_counted(node: &[i32]) -> bool
     ensures { Tells result (IsCount (entry_count_word node.now)) }
 {
-    let n = word(node, 0);
-    (0 <= n) & (place(n) <= FULL_NODE)
+    usize::try_from(word(node, 0)).is_ok_and(|n| n <= FULL_NODE)
 }
 
 // The word at a place of entry k.

@@ -1,7 +1,5 @@
 // The entries that are put in: a leaf's entry, made from its cell, and an inner entry, made from what its child comes to at a minute.
 ghost use Rattle.std.specs.Prelude.{◌≡◌, ◌<◌, ◌^◌};
-ghost use Rattle.std.specs.Int.{w32};
-ghost use Rattle.std.proofs.Common.{SFits};
 ghost use Rattle.track.specs.Numbers.{IsMinute, IsEdge};
 ghost use Rattle.track.specs.Inner.Small.{RowInRange};
 ghost use Rattle.node.specs.Entry.{entries_of};
@@ -24,20 +22,18 @@ fn narrow_row(r: [i64; 4]) -> [i32; 4]
     requires { RowInRange r }
     ensures { result ≡ r }
 {
-    [narrow(r[0]), narrow(r[1]), narrow(r[2]), narrow(r[3])]
+    r.map(narrow)
 }
 
-// What a node's entries come to at a minute: their bounds, a row for x and a row for y, and through `until` the greatest expiry.
-// A number behind a reference comes back without its range, so the contract hands it on.
-pub fn work_out(child: &[i32], leaf: bool, minute: i32, until: &mut i32) -> Bounds
+// What a node's entries come to at a minute: their bounds, a row for x and a row for y, and the greatest expiry.
+pub fn work_out(child: &[i32], leaf: bool, minute: i32) -> (Bounds, i32)
     requires { (IsMinute minute) × (InRangeAt leaf minute (entries_of child.now)) }
-    ensures value { result ≡ worked_out_bounds leaf minute (entries_of child.now) }
-    ensures until_after { (until.new ≡ latest_of leaf (entries_of child.now)) × (SFits w32 until.new) }
+    ensures bounds { result.0 ≡ worked_out_bounds leaf minute (entries_of child.now) }
+    ensures until { result.1 ≡ latest_of leaf (entries_of child.now) }
 {
-    *until = latest(child, leaf);
     let x = narrow_row(worked_row(child, leaf, 0, minute));
     let y = narrow_row(worked_row(child, leaf, 1, minute));
-    [x, y]
+    ([x, y], latest(child, leaf))
 }
 
 // The inner entry above a child, with its bounds and the greatest expiry beneath, worked out at the stamp.
@@ -45,8 +41,7 @@ pub fn inner_entry(child: usize, b: Bounds, until: i32, stamp: i32) -> Entry
     requires { child < 2 ^ 31 }
     ensures { result ≡ inner_entry child b until stamp }
 {
-    let x = b[0];
-    let y = b[1];
+    let [x, y] = b;
     [
         word_of(child),
         x[0],

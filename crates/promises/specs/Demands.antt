@@ -1,13 +1,13 @@
 -- The three demands, each in our words above the theorems that carry it, and what the later requests ask to be shown. `Happens w c a v` is what the contracts promise of a call: on the words w the call c
 -- replies a and leaves the words v. The definitions are in `Happens` (calls, replies, runs, refusals) and `Model` (a plain model of a table), and in the crates that
 -- these cite; the laws that the proofs cite are in the other files.
-use Rattle.std.specs.Prelude.{◌≡◌, refl, ◌⊎◌, ◌↔◌, List, ◌∷◌, ◌++◌, ℕ, ◌*◌, ◌≤◌, ℤ, pos, nat_abs, length, take, drop, ◌<ℤ◌}
+use Rattle.std.specs.Prelude.{◌≡◌, refl, ◌⊎◌, ◌↔◌, List, ◌∷◌, ◌++◌, ℕ, ◌*◌, ◌≤◌, ℤ, pos, nat_abs, length, take, drop, ◌<ℤ◌, Option, None}
 use Rattle.std.proofs.Common.{sym, ap, ◌∙◌, subst}
 use Rattle.whole.specs.Lists.{◌∈◌}
 use Rattle.words.specs.Words.{nat_of}
 use Rattle.track.specs.Numbers.{IsMinute}
 use Rattle.track.specs.Life.{identifier, no_cell, LivesAt, CellInRange}
-use Rattle.track.specs.Refusals.{First, Gives}
+use Rattle.track.specs.Refusals.{First, Gives, number_of}
 use Rattle.track.specs.Laws.Refusals.{first_fixed}
 use Rattle.track.specs.Laws.Life.{lives_at_start}
 use Rattle.track.specs.declared.cell.Cell.{Cell}
@@ -21,19 +21,16 @@ use Rattle.leafing.specs.NextLive.{opening_reasons}
 use Rattle.leafing.specs.Leafed.{LiveCells}
 use Rattle.leafing.specs.Laws.NextLive.{same_by}
 use Rattle.leafing.specs.Laws.LiveCells.{live_in_range}
-use Rattle.leafing.specs.declared.search.Next.{Next}
-use Rattle.leafing.specs.declared.search.Next.TheVariants.{None}
 use Rattle.sheet.specs.Bytes.{AreBytes}
 use Rattle.sheet.specs.Sheet.{total_for, cell_numbers}
 use Rattle.wkt.specs.TrackLine.{PointForm, LineOf}
-use Rattle.wkt.specs.TrackRead.{ReadsAs, track_reasons, track_number}
+use Rattle.wkt.specs.TrackRead.{ReadsAs, track_reasons}
 use Rattle.wkt.specs.declared.point.Point.{Point}
 use Rattle.wkt.specs.Laws.TrackLine.{line_length}
 use Rattle.wkt.specs.Laws.TrackRead.{gives_in_range, track_back, line_back, point_not_read}
 use Rattle.charting.specs.Charted.{TextOf, LineStringsOf}
 use Rattle.charting.specs.Laws.Charted.{charted_within}
 use Rattle.charting.specs.Laws.NeverAPoint.{never_a_point, point_nowhere}
-use Rattle.tree.specs.Steps.{outcome_number}
 use Rattle.tree.specs.Laws.Steps.{step_leaves_what_lives}
 use Rattle.alike.specs.Alike.{Alike}
 use Rattle.calls.specs.TableCalls.{FreshGives, QueryGives, WindowGives, MovingGives}
@@ -144,7 +141,7 @@ accepted_track_is_the_cells_line reads accepted =
 pub track_number_exactly_when : {id r : ℤ} {line : List ℕ} {numbers : List ℤ} → ReadTrackGives id line r numbers → (n : ℕ) → (r ≡ pos n) ↔ First (track_reasons id line) n
 track_number_exactly_when {id} {line} g n =
     let told_is = g.reads.refusal in
-    (λ is. subst (First (track_reasons id line)) (ap nat_abs (sym g.number_is ∙ is)) told_is, λ first. g.number_is ∙ ap pos (first_fixed (track_reasons id line) (track_number g.read) n told_is first))
+    (λ is. subst (First (track_reasons id line)) (ap nat_abs (sym g.number_is ∙ is)) told_is, λ first. g.number_is ∙ ap pos (first_fixed (track_reasons id line) (number_of g.read) n told_is first))
 
 -- A line that gives a cell gives its numbers; one that gives none gives zeros.
 pub track_numbers_are_the_cells : {id r : ℤ} {line : List ℕ} {numbers : List ℤ} {c : Cell} → ReadTrackGives id line r numbers → ReadsAs id line c → (r ≡ pos 0) × (numbers ≡ cell_numbers c)
@@ -217,7 +214,7 @@ open_happens g = (g.number, g.is, record { number = g.number; reply = refl; refu
 
 -- a step's result is 1 with the record of a cell, or 0 with zeros
 pub next_happens : {last r : ℤ} {w numbers : List ℤ} → NextGives w last r numbers
-    → (next : Next) × (r ≡ is_given next) × (numbers ≡ cell_numbers (next_cell next)) × Happens w (Leaf last) (Given next) w
+    → (next : Option Cell) × (r ≡ is_given next) × (numbers ≡ cell_numbers (next_cell next)) × Happens w (Leaf last) (Given next) w
 next_happens g = (g.next, g.number_is, g.record_is, record { next = g.next; reply = refl; steps = g.steps; unchanged = refl })
 
 pub write_happens : {w : List ℤ} {bytes bytes' : List ℕ} {r total : ℤ} → WriteGives w bytes r total bytes'
@@ -229,4 +226,4 @@ pub tracks_happens : {w : List ℤ} {bytes bytes' : List ℕ} {r total : ℤ} �
 tracks_happens {bytes'} g = wrote_in_numbers g.written bytes' g.charts g.in_numbers
 
 pub read_happens : {cells r : ℤ} {w v : List ℤ} {bytes : List ℕ} → ReadGives cells w bytes r v → (n : ℕ) × (r ≡ pos n) × Happens w (Read cells bytes) (Number n) v
-read_happens g = (outcome_number g.outcome, g.number_is, record { outcome = g.outcome; reply = refl; reads = g.reads })
+read_happens g = (number_of g.outcome, g.number_is, record { outcome = g.outcome; reply = refl; reads = g.reads })

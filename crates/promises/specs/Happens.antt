@@ -1,21 +1,20 @@
 -- The calls over one table and their replies; what each call's contract says of its reply and of the table that it leaves; runs of calls; when a call is refused.
-use Rattle.std.specs.Prelude.{◌≡◌, List, [], ◌∷◌, ℕ, ℤ}
+use Rattle.std.specs.Prelude.{◌≡◌, List, [], ◌∷◌, ℕ, ℤ, Result, Option, None}
 use Rattle.track.specs.Query.{still, EndsBeforeStart, EndsByStart}
-use Rattle.track.specs.Refusals.{Reason, First}
+use Rattle.track.specs.Refusals.{Reason, First, number_of}
 use Rattle.track.specs.declared.report.Report as track
 use Rattle.track.specs.declared.queries.Query.{Query}
 use Rattle.table.specs.Fresh.{fresh_reasons, MakesFresh}
 use Rattle.query.specs.Queried.{answer_number, answer_hits, reasons, Queried}
-use Rattle.query.specs.declared.answer.Answer.{Answer}
-use Rattle.tree.specs.Steps.{outcome_number, report_refusals, ReportSteps, drop_refusals, DropSteps}
+use Rattle.tree.specs.Steps.{report_refusals, ReportSteps, drop_refusals, DropSteps}
 use Rattle.leafing.specs.NextLive.{Steps, opening_reasons}
-use Rattle.leafing.specs.declared.search.Next.{Next}
-use Rattle.leafing.specs.declared.search.Next.TheVariants.{None}
-use Rattle.sheet_write.specs.Written.{written_number, written_total, write_reasons, WritesSheet}
-use Rattle.sheet_write.specs.declared.Written.{Written}
+use Rattle.sheet_write.specs.Written.{written_total, write_reasons, WritesSheet}
 use Rattle.charting.specs.Charted.{chart_reasons, ChartsTracks}
 use Rattle.sheet_read.specs.Reads.{read_reasons, ReadsSheet}
-use Rattle.tree.specs.declared.outcome.Outcome.{Outcome}
+use Rattle.track.specs.declared.cell.Cell.{Cell}
+use Rattle.track.specs.declared.refusal.Refusal.{Refusal}
+use Rattle.query.specs.declared.answer.Found.{Found}
+use Rattle.query.specs.declared.answer.NotListed.{NotListed}
 
 -- a call with all that is given to it but the table: numbers, the lent list, the lent bytes
 pub data Call : Type 0 where
@@ -34,7 +33,7 @@ pub data Call : Type 0 where
 pub data Reply : Type 0 where
   Number : (n : ℕ) → Reply
   Listed : (n hits : ℕ) (list : List ℤ) → Reply
-  Given : (r : Next) → Reply
+  Given : (r : Option Cell) → Reply
   Bytes : (n total : ℕ) (bytes : List ℕ) → Reply
 
 -- the number that a reply tells, and its hits
@@ -69,7 +68,7 @@ pub record WasDropped (w : List ℤ) (id minute : ℤ) (a : Reply) (v : List ℤ
 
 -- `Backward` is as in `query_reasons`
 pub record WasAsked (w : List ℤ) (Backward : Type 0) (q : Query) (list : List ℤ) (a : Reply) (v : List ℤ) : Type 0 where
-  pub answer : Answer
+  pub answer : Result Found NotListed
   pub list' : List ℤ
   pub reply : a ≡ Listed (answer_number answer) (answer_hits answer) list'
   pub queried : Queried w Backward q list answer list'
@@ -82,22 +81,22 @@ pub record WasOpened (w : List ℤ) (a : Reply) (v : List ℤ) : Type 0 where
   pub unchanged : v ≡ w
 
 pub record WasStepped (w : List ℤ) (last : ℤ) (a : Reply) (v : List ℤ) : Type 0 where
-  pub next : Next
+  pub next : Option Cell
   pub reply : a ≡ Given next
   pub steps : Steps w last next
   pub unchanged : v ≡ w
 
 -- a sheet, or lines of tracks: `Writes` says with which answer, and what the lent bytes hold afterwards
-pub record WasWritten (w : List ℤ) (Writes : Written → List ℕ → Type 0) (a : Reply) (v : List ℤ) : Type 0 where
-  pub written : Written
+pub record WasWritten (w : List ℤ) (Writes : Result ℕ Refusal → List ℕ → Type 0) (a : Reply) (v : List ℤ) : Type 0 where
+  pub written : Result ℕ Refusal
   pub bytes' : List ℕ
-  pub reply : a ≡ Bytes (written_number written) (written_total written) bytes'
+  pub reply : a ≡ Bytes (number_of written) (written_total written) bytes'
   pub writes : Writes written bytes'
   pub unchanged : v ≡ w
 
 pub record WasRead (w : List ℤ) (cells : ℤ) (bytes : List ℕ) (a : Reply) (v : List ℤ) : Type 0 where
-  pub outcome : Outcome
-  pub reply : a ≡ Number (outcome_number outcome)
+  pub outcome : Result (Unit {0}) Refusal
+  pub reply : a ≡ Number (number_of outcome)
   pub reads : ReadsSheet cells w bytes outcome v
 
 abbrev pub Happens : List ℤ → Call → Reply → List ℤ → Type 0

@@ -48,25 +48,18 @@ pub fn open_entries(
     ensures { OpensEntries (entries_at t.now) q height (drop from (entries_at t.now i)) keys.old found result keys.new }
 {
     let node = node_at(t, i);
-    if count(node) <= from {
-        return found;
+    let mut found = found;
+    for k in from..count(node) {
+        if !entry_meets(node, k, height, q) {
+            continue;
+        }
+        if height == 0 {
+            keys[found.hits] = key(node, k);
+            found.hits += 1;
+        } else {
+            found.opened += 1;
+            found = open_entries(t, q, height - 1, child(node, k), 0, keys, found);
+        }
     }
-    if !entry_meets(node, from, height, q) {
-        return open_entries(t, q, height, i, from + 1, keys, found);
-    }
-    let hits = found.hits;
-    if height == 0 {
-        keys[hits] = key(node, from);
-        let more = Found {
-            hits: hits + 1,
-            opened: found.opened,
-        };
-        return open_entries(t, q, height, i, from + 1, keys, more);
-    }
-    let entered = Found {
-        hits,
-        opened: found.opened + 1,
-    };
-    let below = open_entries(t, q, height - 1, child(node, from), 0, keys, entered);
-    open_entries(t, q, height, i, from + 1, keys, below)
+    found
 }

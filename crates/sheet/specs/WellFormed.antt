@@ -1,14 +1,13 @@
 -- When bytes are a well-formed sheet, clause by clause, and which refusal is given where they are not.
-use Rattle.std.specs.Prelude.{◌≡◌, List, [], ◌∷◌, map, ℕ, ◌≤◌, ℤ, pos, ◌≤ℤ◌, ◌<ℤ◌, length}
+use Rattle.std.specs.Prelude.{◌≡◌, List, [], ◌∷◌, map, ℕ, ◌≤◌, ℤ, pos, ◌≤ℤ◌, ◌<ℤ◌, length, Result, Ok, Err}
 use Rattle.whole.specs.Lists.{◌∈◌}
 use Rattle.whole.specs.Rising.{Rising}
 use Rattle.track.specs.Life.{identifier, LivesAt, CellInRange}
 use Rattle.track.specs.Numbers.{IsMinute}
-use Rattle.track.specs.Refusals.{Reason, ◌when◌, First, number}
+use Rattle.track.specs.Refusals.{Reason, ◌when◌, First, number, number_of}
 use Rattle.track.specs.declared.cell.Cell.{Cell}
 use Rattle.sheet.specs.Sheet.{header_bytes, total_for, count_word, offset_word, clock_of, total_word, record_count, cells_of}
-use Rattle.sheet.specs.declared.judge.Judged.{Judged}
-use Rattle.sheet.specs.declared.judge.Judged.TheVariants.{WellFormed, Refused}
+use Rattle.track.specs.declared.refusal.Refusal.{Refusal}
 
 -- a count from 0 to the limit
 pub record IsCountTo (limit : ℕ) (z : ℤ) : Type 0 where
@@ -45,12 +44,7 @@ sheet_reasons limit bytes =
     12 when (RecordsSound bytes → ⊥) ∷
     []
 
--- each answer's number: 0, or the refusal's
-abbrev pub judged_number : Judged → ℕ
-judged_number WellFormed = 0
-judged_number (Refused why) = number why
-
 -- what is found of bytes: the first refusal, or a sheet that is well formed
-pub record Judges (limit : ℕ) (bytes : List ℕ) (r : Judged) : Type 0 where
-  pub refusal : First (sheet_reasons limit bytes) (judged_number r)
-  pub sound : judged_number r ≡ 0 → SheetSound limit bytes
+pub record Judges (limit : ℕ) (bytes : List ℕ) (r : Result (Unit {0}) Refusal) : Type 0 where
+  pub refusal : First (sheet_reasons limit bytes) (number_of r)
+  pub sound : number_of r ≡ 0 → SheetSound limit bytes

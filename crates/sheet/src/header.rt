@@ -59,14 +59,14 @@ pub fn put_header(bytes: &mut [u8], clock: i32, n: usize)
 fn is_number(z: i32, n: usize) -> bool
     ensures { Tells result (z ≡ pos n) }
 {
-    (0 <= z) & (place(z) == n)
+    usize::try_from(z) == Ok(n)
 }
 
 // Whether a word is a count up to the limit.
 fn is_count_to(z: i32, limit: usize) -> bool
     ensures { Tells result (IsCountTo limit z) }
 {
-    (0 <= z) & (place(z) <= limit)
+    usize::try_from(z).is_ok_and(|n| n <= limit)
 }
 
 // Whether the header is that of a sheet of this length with at most `limit` cells.

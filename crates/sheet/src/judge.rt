@@ -8,13 +8,6 @@ use crate::record::cell_at;
 use track::cell::{Cell, cell_in_range};
 use track::refusal::Refusal;
 
-// What is found of bytes: a well-formed sheet, or why they are none.
-#[derive(Clone, Copy)]
-pub enum Judged {
-    WellFormed,
-    Refused(Refusal),
-}
-
 // Whether a cell may follow one whose identifier is `last`; 0 where none goes before.
 fn follows(c: Cell, clock: i32, last: i32) -> bool
     ensures { Tells result (Follows clock last c) }
@@ -31,27 +24,25 @@ pub fn records_sound(bytes: &[u8]) -> bool
     let n = count_of(bytes);
     let clock = clock_of(bytes);
     let mut last = 0;
-    let mut k = 0;
-    while k < n {
+    for k in 0..n {
         let c = cell_at(bytes, k);
         if !follows(c, clock, last) {
             return false;
         }
         last = c.id;
-        k += 1;
     }
     true
 }
 
 // The header is judged before the records, and every byte before anything is made of them.
-pub fn judge(bytes: &[u8], limit: usize) -> Judged
+pub fn judge(bytes: &[u8], limit: usize) -> Result<(), Refusal>
     ensures { Judges limit bytes.now result }
 {
     if !sheet_header_sound(bytes, limit) {
-        return Judged::Refused(Refusal::BadHeader);
+        return Err(Refusal::BadHeader);
     }
     if !records_sound(bytes) {
-        return Judged::Refused(Refusal::BadRecord);
+        return Err(Refusal::BadRecord);
     }
-    Judged::WellFormed
+    Ok(())
 }

@@ -25,14 +25,7 @@ pub fn cell_at(bytes: &[u8], k: usize) -> Cell
     ensures { result ≡ cell_at bytes.now k }
 {
     if bytes.len() / RECORD_BYTES < k {
-        return Cell {
-            id: 0,
-            x: 0,
-            vx: 0,
-            y: 0,
-            vy: 0,
-            expiry: Minute { at: 0 },
-        };
+        return Cell::default();
     }
     let at = total_for(k);
     Cell {

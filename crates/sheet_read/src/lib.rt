@@ -1,8 +1,7 @@
 // Reading a sheet into lent words, which become a table with the sheet's cells.
 #![tactic(auto)]
 
-ghost use Rattle.track.specs.Refusals.{First};
-ghost use Rattle.tree.specs.Steps.{outcome_number};
+ghost use Rattle.track.specs.Refusals.{First, number_of};
 ghost use Rattle.sheet_read.specs.Reads.{read_reasons, IsRead, ReadsSheet};
 ghost use Rattle.sheet_read.specs.Inner.ReadingSteps.{CanRead};
 ghost use Rattle.sheet_read.specs.Inner.Filling.{CanFill, Filled};
@@ -14,31 +13,30 @@ use table::fresh::fresh;
 use table::header::{is_capacity, set_clock, words_for};
 use track::range::MOST_CELLS;
 use track::refusal::Refusal;
-use tree::outcome::Outcome;
 use tree::root::put_cell;
 use words::place;
 
 // Whether these bytes can be read into these words as a table for so many cells. All is judged before a word is written, so a refusal leaves the words alone.
-fn judge_reading(t: &[i32], cells: i32, bytes: &[u8]) -> Outcome
-    ensures { First (read_reasons cells t.now bytes.now) (outcome_number result) }
+fn judge_reading(t: &[i32], cells: i32, bytes: &[u8]) -> Result<(), Refusal>
+    ensures { First (read_reasons cells t.now bytes.now) (number_of result) }
 {
     if !is_capacity(cells) {
-        return Outcome::Refused(Refusal::BadCapacity);
+        return Err(Refusal::BadCapacity);
     }
     let most = place(cells);
     if t.len() < words_for(most) {
-        return Outcome::Refused(Refusal::ShortTable);
+        return Err(Refusal::ShortTable);
     }
     if !sheet_header_sound(bytes, MOST_CELLS) {
-        return Outcome::Refused(Refusal::BadHeader);
+        return Err(Refusal::BadHeader);
     }
     if most < count_of(bytes) {
-        return Outcome::Refused(Refusal::Full);
+        return Err(Refusal::Full);
     }
     if !records_sound(bytes) {
-        return Outcome::Refused(Refusal::BadRecord);
+        return Err(Refusal::BadRecord);
     }
-    Outcome::Accepted
+    Ok(())
 }
 
 // Puts the cells of the sheet into the tree, which has none yet.
@@ -47,10 +45,8 @@ fn fill(t: &mut [i32], bytes: &[u8], minute: i32)
     ensures { Filled t.old bytes.now minute t.new }
 {
     let n = count_of(bytes);
-    let mut k = 0;
-    while k < n {
+    for k in 0..n {
         put_cell(&mut *t, cell_at(bytes, k), minute);
-        k += 1;
     }
 }
 
@@ -59,20 +55,17 @@ fn replace(t: &mut [i32], cells: i32, bytes: &[u8])
     requires { CanRead cells t.old bytes.now }
     ensures { IsRead cells t.old bytes.now t.new }
 {
-    fresh(&mut *t, cells);
+    fresh(&mut *t, cells).unwrap();
     let clock = clock_of(bytes);
     fill(&mut *t, bytes, clock);
     set_clock(t, clock);
 }
 
 // Replaces the lent table by one for so many cells that holds the sheet's.
-pub fn read_sheet(t: &mut [i32], cells: i32, bytes: &[u8]) -> Outcome
+pub fn read_sheet(t: &mut [i32], cells: i32, bytes: &[u8]) -> Result<(), Refusal>
     ensures { ReadsSheet cells t.old bytes.now result t.new }
 {
-    let judged = judge_reading(t, cells, bytes);
-    let Outcome::Accepted = judged else {
-        return judged;
-    };
+    judge_reading(t, cells, bytes)?;
     replace(t, cells, bytes);
-    Outcome::Accepted
+    Ok(())
 }

@@ -1,24 +1,18 @@
 -- Writing something of a table, and its sheet: when it is refused, and what is left in the lent bytes. The table is only read.
-use Rattle.std.specs.Prelude.{◌≡◌, List, [], ◌∷◌, ◌++◌, ℕ, ◌<◌, ℤ, length, drop}
+use Rattle.std.specs.Prelude.{◌≡◌, List, [], ◌∷◌, ◌++◌, ℕ, ◌<◌, ℤ, length, drop, Result, Ok, Err}
 use Rattle.track.specs.Numbers.{most_cells}
-use Rattle.track.specs.Refusals.{Reason, ◌when◌, First, number}
+use Rattle.track.specs.Refusals.{Reason, ◌when◌, First, number_of}
 use Rattle.track.specs.declared.cell.Cell.{Cell}
 use Rattle.table.specs.Header.{clock}
 use Rattle.table.specs.Sound.{Sound}
 use Rattle.sheet.specs.Sheet.{total_for, sheet_of, clock_of, cells_of}
 use Rattle.sheet.specs.WellFormed.{SheetSound}
 use Rattle.leafing.specs.Leafed.{LiveCells}
-use Rattle.sheet_write.specs.declared.Written.{Written}
-use Rattle.sheet_write.specs.declared.Written.TheVariants.{Total, Refused}
+use Rattle.track.specs.declared.refusal.Refusal.{Refusal}
 
--- each answer's number and total: 0 and the length of what was written, or the refusal's number and 0
-abbrev pub written_number : Written → ℕ
-written_number (Total n) = 0
-written_number (Refused why) = number why
-
-abbrev pub written_total : Written → ℕ
-written_total (Total n) = n
-written_total (Refused why) = 0
+abbrev pub written_total : Result ℕ Refusal → ℕ
+written_total (Ok n) = n
+written_total (Err why) = 0
 
 -- ---- what every writing of a table answers and leaves, whatever is written
 -- why nothing is written of the table w, in the order in which it is tried: `Short` says that the bytes are too few
@@ -29,10 +23,10 @@ table_reasons w Short =
     []
 
 -- the answer and the bytes that the call leaves: `Done` says what total and bytes are where it is accepted
-pub record WritesTable (w : List ℤ) (Short : Type 0) (Done : ℕ → List ℕ → Type 0) (bytes : List ℕ) (r : Written) (bytes' : List ℕ) : Type 0 where
-  pub refusal : First (table_reasons w Short) (written_number r)
-  pub accepted : written_number r ≡ 0 → Done (written_total r) bytes'
-  pub refused : (written_number r ≡ 0 → ⊥) → bytes' ≡ bytes
+pub record WritesTable (w : List ℤ) (Short : Type 0) (Done : ℕ → List ℕ → Type 0) (bytes : List ℕ) (r : Result ℕ Refusal) (bytes' : List ℕ) : Type 0 where
+  pub refusal : First (table_reasons w Short) (number_of r)
+  pub accepted : number_of r ≡ 0 → Done (written_total r) bytes'
+  pub refused : (number_of r ≡ 0 → ⊥) → bytes' ≡ bytes
 
 -- ---- a sheet
 -- the table's sheet is longer than n bytes
@@ -57,5 +51,5 @@ pub record SheetOfTable (w : List ℤ) (sheet : List ℕ) : Type 0 where
   pub clock_is : clock_of sheet ≡ clock w
   pub live : LiveCells w (cells_of sheet)
 
-abbrev pub WritesSheet : List ℤ → List ℕ → Written → List ℕ → Type 0
+abbrev pub WritesSheet : List ℤ → List ℕ → Result ℕ Refusal → List ℕ → Type 0
 WritesSheet w bytes = WritesTable w (LongerThan (length bytes) w) (Writes w bytes) bytes

@@ -1,11 +1,10 @@
 -- A fresh table, and when making one is refused.
-use Rattle.std.specs.Prelude.{◌≡◌, List, [], ◌∷◌, ℕ, ◌<◌, ℤ, pos, length, drop}
+use Rattle.std.specs.Prelude.{◌≡◌, List, [], ◌∷◌, ℕ, ◌<◌, ℤ, pos, length, drop, Result, Ok, Err}
 use Rattle.words.specs.Words.{nat_of}
-use Rattle.track.specs.Refusals.{Reason, ◌when◌, First, number}
+use Rattle.track.specs.Refusals.{Reason, ◌when◌, First, number, number_of}
 use Rattle.table.specs.Header.{capacity_word, clock, IsCapacity, words_for}
 use Rattle.table.specs.Sound.{held, Sound}
-use Rattle.table.specs.declared.fresh.Made.{Made}
-use Rattle.table.specs.declared.fresh.Made.TheVariants.{Fresh, Refused}
+use Rattle.track.specs.declared.refusal.Refusal.{Refusal}
 
 -- why no table for so many cells is made in the words w, in the order in which it is tried
 abbrev pub fresh_reasons : ℤ → List ℤ → List Reason
@@ -13,11 +12,6 @@ fresh_reasons cells w =
     2 when (IsCapacity cells → ⊥) ∷
     3 when (length w < words_for (nat_of cells)) ∷
     []
-
--- each answer's number
-abbrev pub made_number : Made → ℕ
-made_number Fresh = 0
-made_number (Refused r) = number r
 
 -- v is a fresh table for so many cells that was made in the words w: clock 0, no cells, and no word touched past its need
 pub record IsFresh (cells : ℤ) (w v : List ℤ) : Type 0 where

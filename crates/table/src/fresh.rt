@@ -2,8 +2,9 @@
 ghost use Rattle.std.specs.Prelude.{◌≤◌, length};
 ghost use Rattle.words.specs.Layout.{node_start};
 ghost use Rattle.words.specs.Words.{nat_of};
+ghost use Rattle.track.specs.Refusals.{number_of};
 ghost use Rattle.table.specs.Header.{IsCapacity, words_for};
-ghost use Rattle.table.specs.Fresh.{IsFresh, MakesFresh, made_number};
+ghost use Rattle.table.specs.Fresh.{IsFresh, MakesFresh};
 ghost use Rattle.table.specs.Inner.FreshMade.{Freed};
 
 use crate::header::{is_capacity, nodes_for, set_capacity, set_clock, set_root, words_for};
@@ -11,21 +12,13 @@ use node::change_at::keep_at;
 use track::refusal::Refusal;
 use words::place;
 
-#[derive(Clone, Copy)]
-pub enum Made {
-    Fresh,
-    Refused(Refusal),
-}
-
 // Makes each of the first nodes a free one.
 fn free_all(t: &mut [i32], nodes: usize)
     requires { node_start nodes ≤ length t.old }
     ensures { Freed nodes t.old nodes t.new }
 {
-    let mut i = 0;
-    while i < nodes {
-        keep_at(&mut *t, i, 0);
-        i += 1;
+    for i in 0..nodes {
+        keep_at(t, i, 0);
     }
 }
 
@@ -34,21 +27,21 @@ fn write(t: &mut [i32], cells: i32)
     requires { (IsCapacity cells) × (words_for (nat_of cells) ≤ length t.old) }
     ensures { IsFresh cells t.old t.new }
 {
-    free_all(&mut *t, nodes_for(place(cells)));
-    set_capacity(&mut *t, cells);
-    set_clock(&mut *t, 0);
+    free_all(t, nodes_for(place(cells)));
+    set_capacity(t, cells);
+    set_clock(t, 0);
     set_root(t, 0, 0);
 }
 
-pub fn fresh(t: &mut [i32], cells: i32) -> Made
-    ensures { MakesFresh cells t.old (made_number result) t.new }
+pub fn fresh(t: &mut [i32], cells: i32) -> Result<(), Refusal>
+    ensures { MakesFresh cells t.old (number_of result) t.new }
 {
     if !is_capacity(cells) {
-        return Made::Refused(Refusal::BadCapacity);
+        return Err(Refusal::BadCapacity);
     }
     if t.len() < words_for(place(cells)) {
-        return Made::Refused(Refusal::ShortTable);
+        return Err(Refusal::ShortTable);
     }
     write(t, cells);
-    Made::Fresh
+    Ok(())
 }

@@ -46,6 +46,7 @@ pub fn height(t: &[i32]) -> usize
     place_at(t, HEIGHT)
 }
 
+// Each word is set by its name: a setter of any of them would be told its place, which nobody else knows.
 pub fn set_capacity(t: &mut [i32], cells: i32)
     requires { header ≤ length t.old }
     ensures { CapacitySet t.old cells t.new }
@@ -71,7 +72,7 @@ pub fn set_root(t: &mut [i32], root: usize, height: usize)
 pub fn is_capacity(n: i32) -> bool
     ensures { Tells result (IsCapacity n) }
 {
-    (1 <= n) & (place(n) <= MOST_CELLS)
+    (1..=MOST_CELLS).contains(&place(n))
 }
 
 // How many nodes a table of so many cells has.
@@ -99,7 +100,7 @@ pub fn words_for(cells: usize) -> usize
 pub fn is_node(cells: usize, z: i32) -> bool
     ensures { Tells result (IsNode cells z) }
 {
-    (0 <= z) & (place(z) < nodes_for(cells))
+    0 <= z && place(z) < nodes_for(cells)
 }
 
 // Whether the lent words suffice for the capacity, and the header's other numbers are in range.
@@ -107,7 +108,9 @@ pub fn header_sound(t: &[i32]) -> bool
     ensures { Tells result (TableHeaderSound t.now) }
 {
     let cells = capacity(t);
-    let enough = words_for(cells) <= t.len();
-    let rooted = is_node(cells, word(t, ROOT)) & (0 <= word(t, HEIGHT));
-    is_capacity(word(t, CAPACITY)) & is_minute(clock(t)) & enough & rooted
+    is_capacity(word(t, CAPACITY))
+        && is_minute(clock(t))
+        && words_for(cells) <= t.len()
+        && is_node(cells, word(t, ROOT))
+        && 0 <= word(t, HEIGHT)
 }

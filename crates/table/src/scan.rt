@@ -17,37 +17,20 @@ use track::cell::cell_in_range;
 use track::minute::is_minute;
 use words::place;
 
-// What a pass over some entries comes to: so many identifiers gathered, or something that is not sound.
+// A table that is tested, with the capacity and the clock that it is tested by.
 #[derive(Clone, Copy)]
-pub enum Scan {
-    Passed(usize),
-    Bad,
-}
-
-// Whether entry k's child is a node of the table that is filled.
-fn child_sound(t: &[i32], cells: usize, n: &[i32], k: usize) -> bool
-    requires { (words_for cells ≤ length t.now) × (k < full_node) }
-    ensures { Tells result (ChildSound (entries_at t.now) cells (entry_at n.now k)) }
-{
-    let z = child_word(n, k);
-    if !is_node(cells, z) {
-        return false;
-    }
-    3 <= count(node_at(t, place(z)))
+pub struct Tested<'a> {
+    pub table: &'a [i32],
+    pub cells: usize,
+    pub clock: i32,
+    ghost room: { words_for cells ≤ length table.now },
 }
 
 // Whether no stamp of the node's entries is after `last`.
 fn none_after(n: &[i32], last: i32) -> bool
     ensures { Tells result (NoneAfter (entries_of n.now) last) }
 {
-    let mut k = 0;
-    while k < count(n) {
-        if last < stamp(n, k) {
-            return false;
-        }
-        k += 1;
-    }
-    true
+    (0..count(n)).all(|k| stamp(n, k) <= last)
 }
 
 // Whether entry k's stamp is a minute, not after the clock and not before any stamp in the child, which has `below` levels beneath it.
@@ -56,28 +39,7 @@ fn stamp_sound(n: &[i32], k: usize, child: &[i32], below: usize, clock: i32) -> 
     ensures { Tells result (StampSound below clock (entry_at n.now k) (entries_of child.now)) }
 {
     let s = stamp(n, k);
-    if !(is_minute(s) & (s <= clock)) {
-        return false;
-    }
-    if below == 0 {
-        return true;
-    }
-    none_after(child, s)
-}
-
-// Whether entry k of the node n is sound; its child has `below` levels beneath it.
-fn entry_sound(t: &[i32], cells: usize, clock: i32, below: usize, n: &[i32], k: usize) -> bool
-    requires { (words_for cells ≤ length t.now) × (k < full_node) }
-    ensures { Tells result (EntrySound (entries_at t.now) cells clock below (entry_at n.now k)) }
-{
-    if !child_sound(t, cells, n, k) {
-        return false;
-    }
-    let c = node_at(t, child(n, k));
-    if !stamp_sound(n, k, c, below, clock) {
-        return false;
-    }
-    is_worked_out(n, k, c, below == 0)
+    is_minute(s) && s <= clock && (below == 0 || none_after(child, s))
 }
 
 // Gathers the identifier of a leaf's entry k, if it is a cell in range and there is room for one more.
@@ -86,76 +48,84 @@ fn take_cell(n: &[i32], k: usize, cells: usize, keys: &mut [u64], m: usize) -> b
     ensures { EntryTaken cells (entry_at n.now k) keys.old m result keys.new }
 {
     let c = cell(n, k);
-    if !(cell_in_range(c) & (m < cells)) {
+    if !(cell_in_range(c) && m < cells) {
         return false;
     }
     keys[m] = place(c.id) as u64;
     true
 }
 
-// Marks the child of an inner entry k, if the entry is sound and the child was not met before.
-fn enter(
-    t: &[i32],
-    cells: usize,
-    clock: i32,
-    below: usize,
-    n: &[i32],
-    k: usize,
-    marks: &mut [u8],
-) -> bool
-    requires { (words_for cells ≤ length t.now) × (k < full_node) × (nodes_for cells ≤ length marks.old) }
-    ensures { Entered (entries_at t.now) (NodeCounted t.now) cells clock below (entry_at n.now k) marks.old result marks.new }
-{
-    if !entry_sound(t, cells, clock, below, n, k) {
-        return false;
+impl Tested<'_> {
+    // Whether entry k's child is a node of the table that is filled.
+    fn child_sound(&self, n: &[i32], k: usize) -> bool
+        requires { k < full_node }
+        ensures { Tells result (ChildSound (entries_at self.now.table.now) self.now.cells (entry_at n.now k)) }
+    {
+        let z = child_word(n, k);
+        is_node(self.cells, z) && 3 <= count(node_at(self.table, place(z)))
     }
-    let c = child(n, k);
-    if !is_counted(node_at(t, c)) {
-        return false;
-    }
-    if marks[c] != 0 {
-        return false;
-    }
-    marks[c] = 1;
-    true
-}
 
-// The pass over the entries of a node, and over all beneath them. The entries are gone over in a loop, and a child is a call, with
-// one level less beneath it. It marks the nodes met and gathers the identifiers after the first m keys.
-pub fn pass(
-    t: &[i32],
-    cells: usize,
-    clock: i32,
-    height: usize,
-    node: usize,
-    marks: &mut [u8],
-    keys: &mut [u64],
-    m: usize,
-) -> Scan
-    requires { Ready t.now cells node marks.old keys.old m }
-    ensures { PassOutcome (entries_at t.now) (NodeCounted t.now) cells clock height (entries_at t.now node) marks.old keys.old m result marks.new keys.new }
-{
-    let n = node_at(t, node);
-    let mut k = 0;
-    let mut got = m;
-    while k < count(n) {
-        if height == 0 {
-            if !take_cell(n, k, cells, &mut *keys, got) {
-                return Scan::Bad;
-            }
-            got += 1;
-        } else {
-            if !enter(t, cells, clock, height - 1, n, k, &mut *marks) {
-                return Scan::Bad;
-            }
-            let c = child(n, k);
-            let below = pass(t, cells, clock, height - 1, c, &mut *marks, &mut *keys, got);
-            match below {
-                Scan::Bad => return Scan::Bad,
-                Scan::Passed(more) => got = more,
+    // Whether entry k of the node n is sound; its child has `below` levels beneath it.
+    fn entry_sound(&self, below: usize, n: &[i32], k: usize) -> bool
+        requires { k < full_node }
+        ensures { Tells result (EntrySound (entries_at self.now.table.now) self.now.cells self.now.clock below (entry_at n.now k)) }
+    {
+        if !self.child_sound(n, k) {
+            return false;
+        }
+        let c = node_at(self.table, child(n, k));
+        stamp_sound(n, k, c, below, self.clock) && is_worked_out(n, k, c, below == 0)
+    }
+
+    // Marks the child of an inner entry k, if the entry is sound and the child was not met before.
+    fn enter(&self, below: usize, n: &[i32], k: usize, marks: &mut [u8]) -> bool
+        requires { (k < full_node) × (nodes_for self.now.cells ≤ length marks.old) }
+        ensures { Entered (entries_at self.now.table.now) (NodeCounted self.now.table.now) self.now.cells self.now.clock below (entry_at n.now k) marks.old result marks.new }
+    {
+        if !self.entry_sound(below, n, k) {
+            return false;
+        }
+        let c = child(n, k);
+        if !is_counted(node_at(self.table, c)) {
+            return false;
+        }
+        if marks[c] != 0 {
+            return false;
+        }
+        marks[c] = 1;
+        true
+    }
+
+    // The pass over the entries of a node, and over all beneath them. The entries are gone over in a loop, and a child is a call, with
+    // one level less beneath it. It marks the nodes met and gathers the identifiers after the first m keys, and answers how many keys
+    // there are then, or None where something is not sound.
+    pub fn pass(
+        &self,
+        height: usize,
+        node: usize,
+        marks: &mut [u8],
+        keys: &mut [u64],
+        m: usize,
+    ) -> Option<usize>
+        requires { Ready self.now.table.now self.now.cells node marks.old keys.old m }
+        ensures { PassOutcome (entries_at self.now.table.now) (NodeCounted self.now.table.now) self.now.cells self.now.clock height (entries_at self.now.table.now node) marks.old keys.old m result marks.new keys.new }
+    {
+        let n = node_at(self.table, node);
+        let mut got = m;
+        for k in 0..count(n) {
+            if height == 0 {
+                if !take_cell(n, k, self.cells, keys, got) {
+                    return None;
+                }
+                got += 1;
+            } else {
+                if !self.enter(height - 1, n, k, marks) {
+                    return None;
+                }
+                let c = child(n, k);
+                got = self.pass(height - 1, c, marks, keys, got)?;
             }
         }
-        k += 1;
+        Some(got)
     }
-    Scan::Passed(got)
 }

@@ -9,7 +9,7 @@ ghost use Rattle.table.specs.Inner.SoundBy.{FreeUnless, RestFree, TableHeaderSou
 
 use crate::header::{NODES, capacity, clock, header_sound, height, nodes_for, root};
 use crate::nodes::{count_at, node_at};
-use crate::scan::{Scan, pass};
+use crate::scan::Tested;
 use node::entry::is_counted;
 use track::range::MOST_CELLS;
 use words::word;
@@ -20,7 +20,7 @@ fn root_sound(t: &[i32]) -> bool
     ensures { Tells result (RootSound t.now) }
 {
     let i = root(t);
-    is_counted(node_at(t, i)) & ((height(t) == 0) | (2 <= count_at(t, i)))
+    is_counted(node_at(t, i)) && (height(t) == 0 || 2 <= count_at(t, i))
 }
 
 // Whether node i is free, unless it has a mark.
@@ -28,10 +28,7 @@ fn free_unless(t: &[i32], i: usize, mark: u8) -> bool
     requires { InTable t.now i }
     ensures { Tells result (FreeUnless t.now mark i) }
 {
-    if mark != 0 {
-        return true;
-    }
-    word(node_at(t, i), 0) == 0
+    mark != 0 || word(node_at(t, i), 0) == 0
 }
 
 // Whether each node that has no mark is free.
@@ -39,14 +36,7 @@ fn rest_free(t: &[i32], nodes: usize, marks: &[u8]) -> bool
     requires { (nodes ≡ nodes_for (capacity t.now)) × (words_for (capacity t.now) ≤ length t.now) × (nodes ≤ length marks.now) }
     ensures { Tells result (RestFree t.now marks.now) }
 {
-    let mut i = 0;
-    while i < nodes {
-        if !free_unless(t, i, marks[i]) {
-            return false;
-        }
-        i += 1;
-    }
-    true
+    (0..nodes).all(|i| free_unless(t, i, marks[i]))
 }
 
 // Sorts the keys, and tells whether none stood twice.
@@ -54,7 +44,7 @@ fn distinct(keys: &mut [u64]) -> bool
     ensures tells { Tells result (NoRepeat keys.old) }
     ensures keys_len_unchanged { length keys.new ≡ length keys.old }
 {
-    sort::sort(&mut *keys);
+    sort::sort(keys);
     sort::rises(keys)
 }
 
@@ -66,14 +56,14 @@ fn judged(t: &[i32], marks: &mut [u8], keys: &mut [u64]) -> bool
     let cells = capacity(t);
     let i = root(t);
     marks[i] = 1;
-    match pass(t, cells, clock(t), height(t), i, &mut *marks, &mut *keys, 0) {
-        Scan::Bad => false,
-        Scan::Passed(m) => {
-            if !rest_free(t, nodes_for(cells), marks) {
-                return false;
-            }
-            distinct(&mut keys[..m])
-        }
+    let tested = Tested {
+        table: t,
+        cells,
+        clock: clock(t),
+    };
+    match tested.pass(height(t), i, marks, keys, 0) {
+        Some(m) => rest_free(t, nodes_for(cells), marks) && distinct(&mut keys[..m]),
+        None => false,
     }
 }
 
@@ -89,11 +79,5 @@ fn tree_sound(t: &[i32]) -> bool
 pub fn is_sound(t: &[i32]) -> bool
     ensures { Tells result (Sound t.now) }
 {
-    if !header_sound(t) {
-        return false;
-    }
-    if !root_sound(t) {
-        return false;
-    }
-    tree_sound(t)
+    header_sound(t) && root_sound(t) && tree_sound(t)
 }

@@ -1,13 +1,13 @@
 -- What is told of a report and a query on its cell: 1 for yes, 0 for no, else the first refusal's number. `gives_fixed` says that one number only fits it.
-use Rattle.std.specs.Prelude.{List, [], ◌∷◌, ◌++◌, ◌⊎◌, ◌≡◌, ℕ, ◌≤ℤ◌, ◌<ℤ◌}
-use Rattle.track.specs.Refusals.{Reason, ◌when◌, first_given}
-use Rattle.track.specs.Report.{ReportInRange, kept_cell, report_number, report_cell}
-use Rattle.track.specs.Query.{QueryInRange, Crossed, EndsBeforeStart, EndsByStart, still, asked_number, asked_query}
+use Rattle.std.specs.Prelude.{List, [], ◌∷◌, ◌++◌, ◌⊎◌, ◌≡◌, ℕ, ◌≤ℤ◌, ◌<ℤ◌, Result, IsOkAnd}
+use Rattle.track.specs.Refusals.{Reason, ◌when◌, number_of, first_given}
+use Rattle.track.specs.Report.{ReportInRange, kept_cell}
+use Rattle.track.specs.Query.{QueryInRange, Crossed, EndsBeforeStart, EndsByStart, still}
 use Rattle.track.specs.Meets.{CellMeets}
-use Rattle.track.specs.declared.cell.Reported.{Reported}
+use Rattle.track.specs.declared.cell.Cell.{Cell}
 use Rattle.track.specs.declared.report.Report.{Report}
 use Rattle.track.specs.declared.queries.Query.{Query}
-use Rattle.track.specs.declared.queries.Asked.{Asked}
+use Rattle.track.specs.declared.refusal.Refusal.{Refusal}
 
 -- `Backward` is as in `query_reasons`
 abbrev pub meeting_reasons : Report → Type 0 → Query → List Reason
@@ -29,12 +29,12 @@ abbrev pub moving_answers : Report → Query → List Reason
 moving_answers r q = meeting_answers r (EndsByStart q) q
 
 -- of a report and a query that were each answered before: the first refusal's number, 0 where neither is refused
-abbrev pub refusal_of : Reported → Asked → ℕ
-refusal_of r a = first_given (report_number r) (asked_number a)
+abbrev pub refusal_of : Result Cell Refusal → Result Query Refusal → ℕ
+refusal_of reported asked = first_given (number_of reported) (number_of asked)
 
--- and what is told of the two
-abbrev pub answers_to : Reported → Asked → List Reason
-answers_to r a =
-    refusal_of r a when (refusal_of r a ≡ 0 → ⊥) ∷
-    1 when CellMeets (report_cell r) (asked_query a) ∷
+-- and what is told of the two: 1 where there are a cell and a query, and the cell meets it
+abbrev pub answers_to : Result Cell Refusal → Result Query Refusal → List Reason
+answers_to reported asked =
+    refusal_of reported asked when (refusal_of reported asked ≡ 0 → ⊥) ∷
+    1 when IsOkAnd reported (λ c. IsOkAnd asked (λ q. CellMeets c q)) ∷
     []

@@ -1,11 +1,10 @@
 -- What a query asks, and when it is refused. A window is a query whose second rectangle is its first.
-use Rattle.std.specs.Prelude.{List, [], ◌∷◌, ◌⊎◌, ◌≡◌, ℕ, ℤ, pos, ◌≤ℤ◌, ◌<ℤ◌}
+use Rattle.std.specs.Prelude.{List, [], ◌∷◌, ◌⊎◌, ◌≡◌, ℤ, ◌≤ℤ◌, ◌<ℤ◌, Result, IfOk}
 use Rattle.track.specs.Numbers.{IsMinute, IsPosition}
-use Rattle.track.specs.Refusals.{Reason, ◌when◌, First, number}
+use Rattle.track.specs.Refusals.{Reason, ◌when◌, First, number_of}
 use Rattle.track.specs.declared.queries.Edges.{Edges}
 use Rattle.track.specs.declared.queries.Query.{Query}
-use Rattle.track.specs.declared.queries.Asked.{Asked}
-use Rattle.track.specs.declared.queries.Asked.TheVariants.{Taken, Refused}
+use Rattle.track.specs.declared.refusal.Refusal.{Refusal}
 
 -- the query from the first rectangle at the start to the second at the end
 abbrev pub query_from : ℤ → ℤ → ℤ → ℤ → ℤ → ℤ → ℤ → ℤ → ℤ → ℤ → Query
@@ -58,15 +57,7 @@ query_reasons clock Backward q =
     7 when (Backward ⊎ (Crossed q.x ⊎ Crossed q.y)) ∷
     []
 
--- each answer's number and query: 0 and the query, or the refusal's number and zeros
-abbrev pub asked_number : Asked → ℕ
-asked_number (Taken q) = 0
-asked_number (Refused r) = number r
-
-abbrev pub asked_query : Asked → Query
-asked_query (Taken q) = q
-asked_query (Refused r) = query_from (pos 0) (pos 0) (pos 0) (pos 0) (pos 0) (pos 0) (pos 0) (pos 0) (pos 0) (pos 0)
-
-pub record Asks (clock : ℤ) (Backward : Type 0) (q : Query) (r : Asked) : Type 0 where
-  pub refusal : First (query_reasons clock Backward q) (asked_number r)
-  pub query : asked_number r ≡ 0 → asked_query r ≡ q
+-- the answer is the first refusal, or the query
+pub record Asks (clock : ℤ) (Backward : Type 0) (q : Query) (answer : Result Query Refusal) : Type 0 where
+  pub refusal : First (query_reasons clock Backward q) (number_of answer)
+  pub query : IfOk answer (λ asked. asked ≡ q)

@@ -1,5 +1,5 @@
 -- The refusals by number, and which of several is given.
-use Rattle.std.specs.Prelude.{◌≡◌, ◌⊎◌, List, [], ◌∷◌, cond, ℕ, zero, suc, ltb, ℤ, pos}
+use Rattle.std.specs.Prelude.{◌≡◌, ◌⊎◌, List, [], ◌∷◌, cond, ℕ, zero, suc, ltb, ℤ, pos, Result, Ok, Err}
 use Rattle.track.specs.declared.refusal.Refusal.{Refusal}
 use Rattle.track.specs.declared.refusal.Refusal.TheVariants.{NotSound, BadCapacity, ShortTable, OutOfRange, BeforeClock, ExpiresFirst, Backward, NotLive, Full, ShortList, BadHeader, BadRecord, ShortBytes, NoTrack}
 
@@ -18,6 +18,11 @@ number BadHeader = 11
 number BadRecord = 12
 number ShortBytes = 13
 number NoTrack = 14
+
+-- the number of a call's result: 0 where it is not refused, else the refusal's
+abbrev pub number_of : {A : Type 0} → Result A Refusal → ℕ
+number_of (Ok a) = 0
+number_of (Err why) = number why
 
 -- a number, and what it is given for
 infix 70 ◌when◌

@@ -1,11 +1,9 @@
 -- What a report says, and when it is refused.
-use Rattle.std.specs.Prelude.{List, [], ◌∷◌, ◌≡◌, ℕ, ℤ, ◌≤ℤ◌, ◌<ℤ◌}
+use Rattle.std.specs.Prelude.{List, [], ◌∷◌, ◌≡◌, ℤ, ◌≤ℤ◌, ◌<ℤ◌, Result, IfOk}
 use Rattle.track.specs.Numbers.{IsMinute, IsIdentifier, IsPosition, IsVelocity, kept}
-use Rattle.track.specs.Life.{no_cell}
-use Rattle.track.specs.Refusals.{Reason, ◌when◌, First, number}
+use Rattle.track.specs.Refusals.{Reason, ◌when◌, First, number_of}
 use Rattle.track.specs.declared.cell.Cell.{Cell}
-use Rattle.track.specs.declared.cell.Reported.{Reported}
-use Rattle.track.specs.declared.cell.Reported.TheVariants.{Kept, Refused}
+use Rattle.track.specs.declared.refusal.Refusal.{Refusal}
 use Rattle.track.specs.declared.report.Report.{Report}
 
 -- the report of plain numbers
@@ -40,15 +38,7 @@ kept_cell r = record {
   expiry = record { at = r.expiry };
 }
 
--- each answer's number and cell: 0 and the cell, or the refusal's number and zeros
-abbrev pub report_number : Reported → ℕ
-report_number (Kept c) = 0
-report_number (Refused why) = number why
-
-abbrev pub report_cell : Reported → Cell
-report_cell (Kept c) = c
-report_cell (Refused why) = no_cell
-
-pub record Reports (clock : ℤ) (r : Report) (answer : Reported) : Type 0 where
-  pub refusal : First (report_reasons clock r) (report_number answer)
-  pub cell : report_number answer ≡ 0 → report_cell answer ≡ kept_cell r
+-- the answer is the first refusal, or the cell that the report is kept as
+pub record Reports (clock : ℤ) (r : Report) (answer : Result Cell Refusal) : Type 0 where
+  pub refusal : First (report_reasons clock r) (number_of answer)
+  pub cell : IfOk answer (λ c. c ≡ kept_cell r)

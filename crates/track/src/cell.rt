@@ -10,7 +10,7 @@ use crate::refusal::Refusal;
 use crate::report::Report;
 
 // A storm cell, kept at minute 0; its fields stand in the order of a sheet's record.
-#[derive(Clone, Copy)]
+#[derive(Clone, Copy, Debug, Default, PartialEq, Eq)]
 pub struct Cell {
     pub id: i32,
     pub x: i32,
@@ -18,12 +18,6 @@ pub struct Cell {
     pub y: i32,
     pub vy: i32,
     pub expiry: Minute,
-}
-
-#[derive(Clone, Copy)]
-pub enum Reported {
-    Kept(Cell),
-    Refused(Refusal),
 }
 
 // Where what stands at `at` in minute `t` stood at minute 0.
@@ -60,29 +54,25 @@ pub fn cell_in_range(c: Cell) -> bool
 
 impl Cell {
     // The cell of a report that is made when the clock stands at `clock`.
-    pub fn reported(clock: i32, r: Report) -> Reported
+    pub fn reported(clock: i32, r: Report) -> Result<Cell, Refusal>
         ensures { Reports clock r result }
     {
-        let minute = r.minute;
-        let expiry = r.expiry;
-        let outside = !report_in_range(r);
-        let early = minute < clock;
-        if outside {
-            return Reported::Refused(Refusal::OutOfRange);
+        if !report_in_range(r) {
+            return Err(Refusal::OutOfRange);
         }
-        if early {
-            return Reported::Refused(Refusal::BeforeClock);
+        if r.minute < clock {
+            return Err(Refusal::BeforeClock);
         }
-        if expiry <= minute {
-            return Reported::Refused(Refusal::ExpiresFirst);
+        if r.expiry <= r.minute {
+            return Err(Refusal::ExpiresFirst);
         }
-        Reported::Kept(Cell {
+        Ok(Cell {
             id: r.id,
-            x: kept(r.x, r.vx, minute),
+            x: kept(r.x, r.vx, r.minute),
             vx: r.vx,
-            y: kept(r.y, r.vy, minute),
+            y: kept(r.y, r.vy, r.minute),
             vy: r.vy,
-            expiry: Minute { at: expiry },
+            expiry: Minute { at: r.expiry },
         })
     }
 }

@@ -7,10 +7,9 @@ ghost use Rattle.track.specs.Inner.Decides.{gap_line, turned_line, along_to};
 ghost use Rattle.track.specs.Inner.Small.{Small, SmallStraight, RowInRange};
 
 use crate::queries::Edges;
-use whole::wide;
 
 // The instants from lo/lod to hi/hid; empty where the one is after the other.
-#[derive(Clone, Copy)]
+#[derive(Clone, Copy, Debug, PartialEq, Eq)]
 pub struct Interval {
     pub lo: i64,
     pub lod: i64,
@@ -19,7 +18,7 @@ pub struct Interval {
 }
 
 // The line a + b τ.
-#[derive(Clone, Copy)]
+#[derive(Clone, Copy, Debug, PartialEq, Eq)]
 pub struct Straight {
     pub a: i64,
     pub b: i64,
@@ -31,10 +30,10 @@ fn gap(first: i32, second: i32, at: i32, v: i32, start: i64, span: i64) -> Strai
     requires { (IsPosition first) × (IsPosition second) × (IsEdge at) × (IsVelocity v) × (Within 1440 start) × (Within 1440 span) }
     ensures { result ≡ gap_line start span first second at v }
 {
-    let climb = wide(second) - wide(first);
+    let climb = i64::from(second) - i64::from(first);
     Straight {
-        a: span * (wide(first) - wide(at)) - climb * start,
-        b: climb - span * wide(v),
+        a: span * (i64::from(first) - i64::from(at)) - climb * start,
+        b: climb - span * i64::from(v),
     }
 }
 
@@ -59,8 +58,7 @@ impl Interval {
         Interval {
             lo: n,
             lod: d,
-            hi: self.hi,
-            hid: self.hid,
+            ..self
         }
     }
 
@@ -69,10 +67,9 @@ impl Interval {
         ensures { result ≡ ends_at self n d }
     {
         Interval {
-            lo: self.lo,
-            lod: self.lod,
             hi: n,
             hid: d,
+            ..self
         }
     }
 
@@ -123,7 +120,7 @@ impl Interval {
         ensures { result ≡ lives_in self expiry }
     {
         if self.lo * self.hid <= self.hi * self.lod {
-            self.lo < wide(expiry) * self.lod
+            self.lo < i64::from(expiry) * self.lod
         } else {
             false
         }

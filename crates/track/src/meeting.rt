@@ -9,17 +9,17 @@ ghost use Rattle.track.specs.Refusals.{Gives};
 ghost use Rattle.track.specs.Answer.{answers_to};
 ghost use Rattle.track.specs.Accepted.{KeptInRange, TakenInRange};
 
-use crate::cell::{Cell, Reported};
+use crate::cell::Cell;
 use crate::interval::Interval;
-use crate::queries::{Asked, Query};
-use whole::wide;
+use crate::queries::Query;
+use crate::refusal::Refusal;
 
 // The minutes over which the query's rectangle moves, and 1 where its start is its end.
 fn span(q: Query) -> i64
     requires { QueryInRange q }
     ensures { result ≡ span q }
 {
-    let minutes = wide(q.end.at) - wide(q.start.at);
+    let minutes = i64::from(q.end.at) - i64::from(q.start.at);
     if minutes < 1 { 1 } else { minutes }
 }
 
@@ -28,11 +28,11 @@ pub fn meets(b: [[i32; 4]; 2], expiry: i32, q: Query) -> bool
     requires { (BoundsInRange b) × (IsMinute expiry) × (QueryInRange q) }
     ensures { Tells result (Meets b expiry q) }
 {
-    let start = wide(q.start.at);
+    let start = i64::from(q.start.at);
     let whole = Interval {
         lo: start,
         lod: 1,
-        hi: wide(q.end.at),
+        hi: i64::from(q.end.at),
         hid: 1,
     };
     let minutes = span(q);
@@ -62,18 +62,14 @@ pub fn cell_meets(c: Cell, q: Query) -> bool
 }
 
 // What is told of a report and a query on its cell: 1 for yes, 0 for no, else the first refusal's number.
-pub fn answer(reported: Reported, asked: Asked) -> i32
+pub fn answer(reported: Result<Cell, Refusal>, asked: Result<Query, Refusal>) -> i32
     requires { (KeptInRange reported) × (TakenInRange asked) }
     ensures { Gives (answers_to reported asked) result }
 {
-    match reported {
-        Reported::Kept(c) => match asked {
-            Asked::Taken(q) => if cell_meets(c, q) { 1 } else { 0 },
-            Asked::Refused(why) => why.number(),
-        },
-        Reported::Refused(why) => match asked {
-            Asked::Taken(_) => why.number(),
-            Asked::Refused(other) => why.first(other),
-        },
+    match (reported, asked) {
+        (Ok(c), Ok(q)) => i32::from(cell_meets(c, q)),
+        (Ok(_), Err(why)) => why.number(),
+        (Err(why), Ok(_)) => why.number(),
+        (Err(why), Err(other)) => why.first(other),
     }
 }

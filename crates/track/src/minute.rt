@@ -2,7 +2,7 @@ ghost use Rattle.whole.specs.Tells.{Tells};
 ghost use Rattle.track.specs.Numbers.{IsMinute};
 
 // A minute of the day, both ends allowed.
-#[derive(Clone, Copy)]
+#[derive(Clone, Copy, Debug, Default, PartialEq, Eq)]
 pub struct Minute {
     pub at: i32,
 }
@@ -16,7 +16,5 @@ impl Minute {
 pub fn is_minute(m: i32) -> bool
     ensures { Tells result (IsMinute m) }
 {
-    let first = Minute::FIRST;
-    let last = Minute::LAST;
-    (first.at <= m) & (m <= last.at)
+    (Minute::FIRST.at..=Minute::LAST.at).contains(&m)
 }

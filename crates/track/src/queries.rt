@@ -7,7 +7,7 @@ use crate::range::is_position;
 use crate::refusal::Refusal;
 
 // A query's edges on one axis: low and high at its start, low2 and high2 at its end.
-#[derive(Clone, Copy)]
+#[derive(Clone, Copy, Debug, PartialEq, Eq)]
 pub struct Edges {
     pub low: i32,
     pub high: i32,
@@ -16,7 +16,7 @@ pub struct Edges {
 }
 
 // A rectangle that goes straight from the first, at the start, to the second, at the end.
-#[derive(Clone, Copy)]
+#[derive(Clone, Copy, Debug, PartialEq, Eq)]
 pub struct Query {
     pub start: Minute,
     pub end: Minute,
@@ -68,12 +68,6 @@ pub fn window_from(start: i32, end: i32, xlow: i32, xhigh: i32, ylow: i32, yhigh
     )
 }
 
-#[derive(Clone, Copy)]
-pub enum Asked {
-    Taken(Query),
-    Refused(Refusal),
-}
-
 fn edges_in_range(e: Edges) -> bool
     ensures { Tells result (EdgesInRange e) }
 {
@@ -105,20 +99,19 @@ fn ends_by_start(q: Query) -> bool
 }
 
 // The query, where nothing speaks against it when the clock stands at `clock`.
-fn judged(clock: i32, backward: bool, q: Query) -> Asked
+fn judged(clock: i32, backward: bool, q: Query) -> Result<Query, Refusal>
     ensures { Asks clock (T backward) q result }
 {
     if !query_in_range(q) {
-        return Asked::Refused(Refusal::OutOfRange);
+        return Err(Refusal::OutOfRange);
     }
     if q.start.at < clock {
-        return Asked::Refused(Refusal::BeforeClock);
+        return Err(Refusal::BeforeClock);
     }
-    let crossing = crossed(q.x) | crossed(q.y);
-    if backward | crossing {
-        return Asked::Refused(Refusal::Backward);
+    if backward | (crossed(q.x) | crossed(q.y)) {
+        return Err(Refusal::Backward);
     }
-    Asked::Taken(q)
+    Ok(q)
 }
 
 impl Edges {
@@ -127,10 +120,9 @@ impl Edges {
         ensures { result ≡ still_edges self }
     {
         Edges {
-            low: self.low,
-            high: self.high,
             low2: self.low,
             high2: self.high,
+            ..self
         }
     }
 }
@@ -140,27 +132,22 @@ impl Query {
     fn still(self) -> Query
         ensures { result ≡ still self }
     {
-        let start = self.start;
-        let end = self.end;
-        let x = self.x;
-        let y = self.y;
         Query {
-            start,
-            end,
-            x: x.still(),
-            y: y.still(),
+            x: self.x.still(),
+            y: self.y.still(),
+            ..self
         }
     }
 
     // A window asked when the clock stands at `clock`: one rectangle, the query's first, from start to end.
-    pub fn window(clock: i32, q: Query) -> Asked
+    pub fn window(clock: i32, q: Query) -> Result<Query, Refusal>
         ensures { Asks clock (EndsBeforeStart q) (still q) result }
     {
         judged(clock, ends_before_start(q), q.still())
     }
 
     // A moving query asked when the clock stands at `clock`.
-    pub fn moving(clock: i32, q: Query) -> Asked
+    pub fn moving(clock: i32, q: Query) -> Result<Query, Refusal>
         ensures { Asks clock (EndsByStart q) q result }
     {
         judged(clock, ends_by_start(q), q)

@@ -11,7 +11,7 @@ fn within(z: i32, bound: i32) -> bool
     requires { (pos 0 ≤ℤ bound) × (bound ≤ℤ pos 1000000) }
     ensures { Tells result (Within (nat_abs bound) z) }
 {
-    (-bound <= z) & (z <= bound)
+    (-bound..=bound).contains(&z)
 }
 
 pub fn is_identifier(id: i32) -> bool

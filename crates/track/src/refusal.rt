@@ -1,53 +1,47 @@
 ghost use Rattle.std.specs.Prelude.{◌≡◌, pos};
-ghost use Rattle.track.specs.Refusals.{number, first_given};
+ghost use Rattle.track.specs.Refusals.{number, number_of, first_given};
 
 // Why a call is refused. A definition gives each its number.
-#[derive(Clone, Copy)]
+#[derive(Clone, Copy, Debug, PartialEq, Eq)]
 pub enum Refusal {
-    NotSound,
-    BadCapacity,
-    ShortTable,
-    OutOfRange,
-    BeforeClock,
-    ExpiresFirst,
-    Backward,
-    NotLive,
-    Full,
-    ShortList,
-    BadHeader,
-    BadRecord,
-    ShortBytes,
-    NoTrack,
+    NotSound = 1,
+    BadCapacity = 2,
+    ShortTable = 3,
+    OutOfRange = 4,
+    BeforeClock = 5,
+    ExpiresFirst = 6,
+    Backward = 7,
+    NotLive = 8,
+    Full = 9,
+    ShortList = 10,
+    BadHeader = 11,
+    BadRecord = 12,
+    ShortBytes = 13,
+    NoTrack = 14,
 }
 
 impl Refusal {
     pub fn number(self) -> i32
         ensures { result ≡ pos (number self) }
     {
-        match self {
-            Refusal::NotSound => 1,
-            Refusal::BadCapacity => 2,
-            Refusal::ShortTable => 3,
-            Refusal::OutOfRange => 4,
-            Refusal::BeforeClock => 5,
-            Refusal::ExpiresFirst => 6,
-            Refusal::Backward => 7,
-            Refusal::NotLive => 8,
-            Refusal::Full => 9,
-            Refusal::ShortList => 10,
-            Refusal::BadHeader => 11,
-            Refusal::BadRecord => 12,
-            Refusal::ShortBytes => 13,
-            Refusal::NoTrack => 14,
-        }
+        self as i32
     }
 
     // The number of the one that is given where both apply: the lesser.
+    #[tactic(auto, using(crate::specs::Laws::Refusals::first_is_least))]
     pub fn first(self, other: Refusal) -> i32
         ensures { result ≡ pos (first_given (number self) (number other)) }
     {
-        let mine = self.number();
-        let its = other.number();
-        if its < mine { its } else { mine }
+        self.number().min(other.number())
+    }
+}
+
+// The number of a call's answer: 0 where it is not refused.
+pub fn number_of<T: Copy>(answer: Result<T, Refusal>) -> i32
+    ensures { result ≡ pos (number_of answer) }
+{
+    match answer {
+        Ok(_) => 0,
+        Err(why) => why.number(),
     }
 }

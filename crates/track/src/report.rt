@@ -2,7 +2,7 @@ ghost use Rattle.std.specs.Prelude.{◌≡◌};
 ghost use Rattle.track.specs.Report.{report_from};
 
 // A report as it comes: a cell where radar saw it, not judged yet.
-#[derive(Clone, Copy)]
+#[derive(Clone, Copy, Debug, PartialEq, Eq)]
 pub struct Report {
     pub id: i32,
     pub x: i32,

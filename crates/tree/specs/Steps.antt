@@ -1,9 +1,9 @@
 -- What a report and a drop answer, and the table that they leave.
-use Rattle.std.specs.Prelude.{◌≡◌, ◌⊎◌, List, [], ◌∷◌, ◌++◌, ℕ, ℤ, length, drop, ◌<ℤ◌}
+use Rattle.std.specs.Prelude.{◌≡◌, ◌⊎◌, List, [], ◌∷◌, ◌++◌, ℕ, ℤ, length, drop, ◌<ℤ◌, Result, Ok, Err}
 use Rattle.whole.specs.Lists.{◌∈◌, NoRepeat}
 use Rattle.track.specs.Numbers.{IsMinute, IsIdentifier}
 use Rattle.track.specs.Life.{LivesAt}
-use Rattle.track.specs.Refusals.{Reason, ◌when◌, First, number}
+use Rattle.track.specs.Refusals.{Reason, ◌when◌, First, number, number_of}
 use Rattle.track.specs.Report.{report_reasons, kept_cell}
 use Rattle.track.specs.declared.cell.Cell.{Cell}
 use Rattle.track.specs.declared.report.Report.{Report}
@@ -11,13 +11,7 @@ use Rattle.node.specs.Entry.{child_of, stamp_of}
 use Rattle.table.specs.Header.{capacity_word, capacity, clock, root, height, words_for, entries_at}
 use Rattle.table.specs.SoundTree.{nodes_of, InnerEntry, inners_of}
 use Rattle.table.specs.Sound.{held, Live, Sound}
-use Rattle.tree.specs.declared.outcome.Outcome.{Outcome}
-use Rattle.tree.specs.declared.outcome.Outcome.TheVariants.{Accepted, Refused}
-
--- each outcome's number: 0, or the refusal's
-abbrev pub outcome_number : Outcome → ℕ
-outcome_number Accepted = 0
-outcome_number (Refused r) = number r
+use Rattle.track.specs.declared.refusal.Refusal.{Refusal}
 
 -- the inner entries of a table's tree
 abbrev pub inners : List ℤ → List InnerEntry

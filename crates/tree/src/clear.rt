@@ -22,7 +22,7 @@ fn settle_root(t: &mut [i32])
         return;
     }
     let child = child_at(t, i, 0);
-    keep_at(&mut *t, i, 0);
+    keep_at(t, i, 0);
     set_root(t, child, h - 1);
 }
 
@@ -33,7 +33,7 @@ fn clear_one(t: &mut [i32], minute: i32, id: i32) -> bool
 {
     let h = height(t);
     let i = root(t);
-    if !take_out(&mut *t, h, i, 0, minute, id) {
+    if !take_out(t, h, i, 0, minute, id) {
         return false;
     }
     settle_root(t);
@@ -45,5 +45,6 @@ pub fn clear(t: &mut [i32], minute: i32, id: i32)
     requires { Holding t.old minute }
     ensures { Cleared t.old minute id t.new }
 {
-    while clear_one(&mut *t, minute, id) {}
+    // A `while`, since how many go is not known before.
+    while clear_one(t, minute, id) {}
 }

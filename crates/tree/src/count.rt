@@ -10,15 +10,13 @@ pub fn staying(t: &[i32], h: usize, i: usize, k: usize, minute: i32, id: i32) ->
     requires { CanCount t.now h i }
     ensures { result ≡ stay_from t.now minute id h i k }
 {
-    if count_at(t, i) <= k {
-        return 0;
+    let mut many = 0;
+    for at in k..count_at(t, i) {
+        many += if h == 0 {
+            usize::from(!goes_at(t, i, at, minute, id))
+        } else {
+            staying(t, h - 1, child_at(t, i, at), 0, minute, id)
+        };
     }
-    let rest = staying(t, h, i, k + 1, minute, id);
-    if h == 0 {
-        if goes_at(t, i, k, minute, id) {
-            return rest;
-        }
-        return rest + 1;
-    }
-    staying(t, h - 1, child_at(t, i, k), 0, minute, id) + rest
+    many
 }

@@ -4,5 +4,4 @@
 pub mod change;
 pub mod clear;
 pub mod count;
-pub mod outcome;
 pub mod root;

@@ -21,10 +21,10 @@ fn grow(t: &mut [i32], minute: i32)
 {
     let old = root(t);
     let h = height(t);
-    let above = free_node(t, nodes(t));
+    let above = free_node(t, nodes(t)).unwrap();
     let e = entry_above(t, old, h == 0, minute);
-    append_at(&mut *t, above, e);
-    set_root(&mut *t, above, h + 1);
+    append_at(t, above, e);
+    set_root(t, above, h + 1);
     part_child(t, h, above, 0, minute);
 }
 
@@ -33,10 +33,9 @@ fn make_room(t: &mut [i32], minute: i32)
     requires { HasRoom t.old minute }
     ensures { Grown t.old minute t.new }
 {
-    if count_at(t, root(t)) < FULL_NODE {
-        return;
+    if count_at(t, root(t)) == FULL_NODE {
+        grow(t, minute);
     }
-    grow(t, minute);
 }
 
 // Puts the cell into the tree.
@@ -44,7 +43,7 @@ pub fn put_cell(t: &mut [i32], c: Cell, minute: i32)
     requires { (HasRoom t.old minute) × (CellInRange c) }
     ensures { PutCell t.old minute (leaf_entry c) t.new }
 {
-    make_room(&mut *t, minute);
+    make_room(t, minute);
     let h = height(t);
     let i = root(t);
     put_in(t, h, i, c, minute);

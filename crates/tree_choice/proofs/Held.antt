@@ -1,22 +1,29 @@
--- What the next operation reads of a call's result or of a field, and of a number that was held to a bound.
-use mathlib.Core.Path.{◌≡◌}
-use mathlib.Core.Bool.{Bool}
-use Prim.Native.Nat.{◌^◌, ◌<◌}
-use lib.IntN.{ℤ, pos}
-use lib.Signed.{◌≤ℤ◌, lt_z, mag}
-use mir.Syntax.{w64}
-use mir.Val.{SFits, hbits, to_z, of_z}
-use Rattle.whole.specs.Laws.Within.{back, read64}
+-- What the code's `min`, `max` and `clamp` come to.
+use Rattle.std.specs.Prelude.{◌≡◌, refl, ℤ, pos, neg_ℤ, ◌-ℤ◌, ◌≤ℤ◌}
+use Rattle.std.proofs.Common.{◌∙◌, arith}
+use Rattle.std.specs.Int.{w64, int_max, int_min}
+use Rattle.std.proofs.lemmas.Int.{ints}
+use mir.Val.{SFits, to_z, of_z}
+use Rattle.whole.specs.Laws.Within.{back}
+use Rattle.track.specs.Hull.{lesser, greater}
 use Rattle.tree_choice.specs.Area.{held_to}
-use Rattle.tree_choice.specs.Laws.Area.{held_below}
 
--- a test of two numbers is the test of what is read of them
-pub read_test : {a b : ℤ} {r : Bool} → SFits w64 a → SFits w64 b → lt_z (to_z w64 (of_z w64 a)) (to_z w64 (of_z w64 b)) ≡ r → lt_z a b ≡ r
-read_test f g t = simp (back f, back g) at t
+pub min_is : (a b : ℤ) → int_min a b ≡ lesser a b
+unfolding lesser
+min_is a b = refl
 
--- `c.call.type_inv`, or a field's place in `c.well_formed`, is the fact that z fits
-pub long_back : (z : ℤ) → mag z < 2 ^ hbits w64 → to_z w64 (of_z w64 z) ≡ z
-long_back z small = back {w = w64} {z = z} (record { sfits = small })
+pub max_is : (a b : ℤ) → int_max a b ≡ greater a b
+unfolding greater
+max_is a b = grind (arith, ints)
 
-pub held_read : {bound r : ℤ} (z : ℤ) → pos 0 ≤ℤ bound → bound ≤ℤ pos (2 ^ 23) → r ≡ held_to bound z → to_z w64 (of_z w64 r) ≡ held_to bound z
-held_read z low high is = rw is (read64 tt (held_below low high z))
+clamp_of : (bound z : ℤ) → pos 0 ≤ℤ bound → int_max (neg_ℤ bound) (int_min z bound) ≡ held_to bound z
+unfolding held_to
+clamp_of bound z h = grind (arith, ints)
+
+-- `z.clamp(-bound, bound)`
+pub clamp_is : {bound z r : ℤ} → SFits w64 bound → SFits w64 z → pos 0 ≤ℤ bound
+    → r ≡ int_max (to_z w64 (of_z w64 (pos 0 -ℤ to_z w64 (of_z w64 bound)))) (int_min (to_z w64 (of_z w64 z)) (to_z w64 (of_z w64 bound)))
+    → r ≡ held_to bound z
+clamp_is {bound} {z} {r} f g h e =
+    let least : to_z w64 (of_z w64 (pos 0 -ℤ bound)) ≡ neg_ℤ bound = omega (arith, ints) in
+    simp (back f, back g, least) at e ∙ clamp_of bound z h

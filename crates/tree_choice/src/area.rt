@@ -1,15 +1,14 @@
 // The area that bounds cover over the coming minutes: the integral of the paper on the TPR-tree, §3.3, formula 1.
 ghost use Rattle.std.specs.Prelude.{◌≡◌, pos, ◌+ℤ◌, ◌-ℤ◌, ◌*ℤ◌, ◌≤ℤ◌, ◌^◌};
-ghost use Rattle.track.specs.Hull.{lesser, greater};
 ghost use Rattle.tree_choice.specs.Area.{held_to, extent_of, no_extent, both_extents, width_of, growth_of, place_of, velocity_of, cover_of, no_cover, both_covers, area_integral};
 
 use track::meeting::Bounds;
-use whole::wide;
 
 // The minutes that a choice looks ahead.
 const HORIZON: i64 = 30;
 
 // An edge in a sound table is at no minute farther from 0 than 2,311,840 + 512 · 1,440, and none goes faster.
+// Of other words, what is beyond is held to these two, so that the products fit as well.
 const FARTHEST: i64 = 3049120;
 
 const FASTEST: i64 = 512;
@@ -30,38 +29,12 @@ pub struct Cover {
     pub y: Extent,
 }
 
-fn lesser(a: i64, b: i64) -> i64
-    ensures { result ≡ lesser a b }
-{
-    if b < a { b } else { a }
-}
-
-fn greater(a: i64, b: i64) -> i64
-    ensures { result ≡ greater a b }
-{
-    if a < b { b } else { a }
-}
-
-// z, or the nearest number within the bound. No number of a sound table is changed; of other words the products fit as well.
-fn held(z: i64, bound: i64) -> i64
-    requires { (pos 0 ≤ℤ bound) × (bound ≤ℤ pos (2 ^ 23)) }
-    ensures { result ≡ held_to bound z }
-{
-    if z < -bound {
-        return -bound;
-    }
-    if bound < z {
-        return bound;
-    }
-    z
-}
-
 // By how much the high number is above the low one, each held to the bound.
 fn apart(low: i64, high: i64, bound: i64) -> i64
     requires { (pos 0 ≤ℤ bound) × (bound ≤ℤ pos (2 ^ 23)) }
     ensures { result ≡ held_to bound high -ℤ held_to bound low }
 {
-    held(high, bound) - held(low, bound)
+    high.clamp(-bound, bound) - low.clamp(-bound, bound)
 }
 
 // Twice the middle of the two, each held to the bound.
@@ -69,14 +42,14 @@ fn twice_middle(low: i64, high: i64, bound: i64) -> i64
     requires { (pos 0 ≤ℤ bound) × (bound ≤ℤ pos (2 ^ 23)) }
     ensures { result ≡ held_to bound low +ℤ held_to bound high }
 {
-    held(low, bound) + held(high, bound)
+    low.clamp(-bound, bound) + high.clamp(-bound, bound)
 }
 
 // Where an edge that is at `at` at minute 0 and goes by v is at the minute.
 fn edge_at(at: i32, v: i32, minute: i32) -> i64
     ensures { result ≡ at +ℤ v *ℤ minute }
 {
-    wide(at) + wide(v) * wide(minute)
+    i64::from(at) + i64::from(v) * i64::from(minute)
 }
 
 impl Extent {
@@ -87,8 +60,8 @@ impl Extent {
         Extent {
             low: edge_at(row[0], row[2], minute),
             high: edge_at(row[1], row[3], minute),
-            slowest: wide(row[2]),
-            fastest: wide(row[3]),
+            slowest: i64::from(row[2]),
+            fastest: i64::from(row[3]),
         }
     }
 
@@ -108,10 +81,10 @@ impl Extent {
         ensures { result ≡ both_extents self other }
     {
         Extent {
-            low: lesser(self.low, other.low),
-            high: greater(self.high, other.high),
-            slowest: lesser(self.slowest, other.slowest),
-            fastest: greater(self.fastest, other.fastest),
+            low: self.low.min(other.low),
+            high: self.high.max(other.high),
+            slowest: self.slowest.min(other.slowest),
+            fastest: self.fastest.max(other.fastest),
         }
     }
 

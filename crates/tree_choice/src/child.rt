@@ -1,31 +1,18 @@
 // Which child a cell enters: that whose area integral grows least by it, as in the paper on the TPR-tree, §3.4.
 ghost use Rattle.std.specs.Prelude.{◌≡◌, ◌<◌};
-ghost use Rattle.whole.specs.Tells.{Tells};
 ghost use Rattle.words.specs.Layout.{full_node};
 ghost use Rattle.node.specs.Entry.{entry_count};
-ghost use Rattle.tree_choice.specs.Child.{child_cost, Cheaper, Cheapest, CheaperOf};
+ghost use Rattle.tree_choice.specs.Child.{child_cost, Cheapest, CheaperOf};
 
 use crate::area::Cover;
 use node::entry::{bounds, count};
 use track::meeting::Bounds;
 
 // What it costs a child to take a cell in: the growth of its area integral, and the integral that it had.
-#[derive(Clone, Copy)]
+#[derive(Clone, Copy, PartialEq, Eq, PartialOrd, Ord)]
 pub struct Cost {
     pub growth: i64,
     pub before: i64,
-}
-
-impl Cost {
-    fn less_than(self, other: Cost) -> bool
-        ensures { Tells result (Cheaper self other) }
-    {
-        if self.growth == other.growth {
-            self.before < other.before
-        } else {
-            self.growth < other.growth
-        }
-    }
 }
 
 // What it costs entry k to take in what has these bounds.
@@ -38,7 +25,7 @@ fn cost_of(node: &[i32], k: usize, b: Bounds, minute: i32) -> Cost
     let before = own.integral();
     Cost {
         growth: both.integral() - before,
-        before: before,
+        before,
     }
 }
 
@@ -47,17 +34,14 @@ pub fn best_child(node: &[i32], b: Bounds, minute: i32) -> usize
     requires { 0 < entry_count node.now }
     ensures { Cheapest node.now b minute result }
 {
-    let n = count(node);
     let mut best = 0;
     let mut least = cost_of(node, 0, b, minute);
-    let mut k = 1;
-    while k < n {
+    for k in 1..count(node) {
         let next = cost_of(node, k, b, minute);
-        if next.less_than(least) {
+        if next < least {
             best = k;
             least = next;
         }
-        k += 1;
     }
     best
 }
@@ -69,5 +53,5 @@ pub fn better_child(node: &[i32], j: usize, k: usize, b: Bounds, minute: i32) ->
 {
     let own = cost_of(node, j, b, minute);
     let other = cost_of(node, k, b, minute);
-    if other.less_than(own) { k } else { j }
+    if other < own { k } else { j }
 }

@@ -17,8 +17,7 @@ pub fn entry_above(t: &[i32], child: usize, leaf: bool, minute: i32) -> Entry
     requires { (InTable t.now child) × (child < 2 ^ 31) × (IsMinute minute) × (InRangeAt leaf minute (entries_at t.now child)) }
     ensures { result ≡ entry_above (entries_at t.now) leaf minute child }
 {
-    let mut until = 0;
-    let b = work_out(node_at(t, child), leaf, minute, &mut until);
+    let (b, until) = work_out(node_at(t, child), leaf, minute);
     inner_entry(child, b, until, minute)
 }
 

@@ -10,7 +10,7 @@ use node::change_at::remove_at;
 use table::nodes::{child_at, count_at};
 use tree_choice::parting::FEWEST;
 
-// A place beside place k.
+// A place beside place k: two numbers for two cases are plainer than `k.checked_sub(1).unwrap_or(1)`.
 fn beside(k: usize) -> usize
     ensures { Beside k result }
 {
@@ -26,8 +26,8 @@ fn borrow_one(t: &mut [i32], h: usize, i: usize, k: usize, b: usize, minute: i32
     let child = child_at(t, i, k);
     let sibling = child_at(t, i, b);
     let last = count_at(t, sibling) - 1;
-    move_entry(&mut *t, sibling, last, child);
-    refresh(&mut *t, i, b, sibling, leaf, minute);
+    move_entry(t, sibling, last, child);
+    refresh(t, i, b, sibling, leaf, minute);
     refresh(t, i, k, child, leaf, minute);
 }
 
@@ -38,9 +38,9 @@ fn join(t: &mut [i32], h: usize, i: usize, k: usize, b: usize, minute: i32)
 {
     let child = child_at(t, i, k);
     let sibling = child_at(t, i, b);
-    move_entry(&mut *t, child, 1, sibling);
-    move_entry(&mut *t, child, 0, sibling);
-    refresh(&mut *t, i, b, sibling, h == 0, minute);
+    move_entry(t, child, 1, sibling);
+    move_entry(t, child, 0, sibling);
+    refresh(t, i, b, sibling, h == 0, minute);
     remove_at(t, i, k);
 }
 

@@ -16,10 +16,10 @@ pub fn part_child(t: &mut [i32], h: usize, i: usize, k: usize, minute: i32)
 {
     let leaf = h == 0;
     let full = child_at(t, i, k);
-    let node = free_node(t, nodes(t));
+    let node = free_node(t, nodes(t)).unwrap();
     let marks = parting(node_at(t, full), leaf, minute);
-    move_marked(&mut *t, full, node, marks);
-    refresh(&mut *t, i, k, full, leaf, minute);
+    move_marked(t, full, node, marks);
+    refresh(t, i, k, full, leaf, minute);
     let e = entry_above(t, node, leaf, minute);
     append_at(t, i, e);
 }

@@ -25,7 +25,7 @@ pub fn way_down(t: &mut [i32], h: usize, i: usize, b: Bounds, minute: i32) -> us
     if count_at(t, child) < FULL_NODE {
         return k;
     }
-    part_child(&mut *t, h, i, k, minute);
+    part_child(t, h, i, k, minute);
     let last = count_at(t, i) - 1;
     better_child(node_at(t, i), k, last, b, minute)
 }
@@ -40,8 +40,8 @@ pub fn put_in(t: &mut [i32], h: usize, i: usize, c: Cell, minute: i32)
         return;
     }
     let below = h - 1;
-    let k = way_down(&mut *t, below, i, cell_bounds(c), minute);
+    let k = way_down(t, below, i, cell_bounds(c), minute);
     let child = child_at(t, i, k);
-    put_in(&mut *t, below, child, c, minute);
+    put_in(t, below, child, c, minute);
     refresh(t, i, k, child, below == 0, minute);
 }

@@ -14,7 +14,7 @@ pub fn move_entry(t: &mut [i32], from: usize, k: usize, to: usize)
     ensures { Shifted (capacity t.old) t.old from to 1 t.new }
 {
     let e = entry_at(t, from, k);
-    remove_at(&mut *t, from, k);
+    remove_at(t, from, k);
     append_at(t, to, e);
 }
 
@@ -23,11 +23,9 @@ pub fn move_marked(t: &mut [i32], from: usize, to: usize, marks: Marks)
     requires { CanPart t.old from to marks }
     ensures { Shifted (capacity t.old) t.old from to (marked marks) t.new }
 {
-    let mut k = FULL_NODE;
-    while 0 < k {
-        k -= 1;
+    for k in (0..FULL_NODE).rev() {
         if marks[k] {
-            move_entry(&mut *t, from, k, to);
+            move_entry(t, from, k, to);
         }
     }
 }

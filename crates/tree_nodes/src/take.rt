@@ -17,7 +17,7 @@ use track::cell::Cell;
 fn goes(c: Cell, minute: i32, id: i32) -> bool
     ensures { Tells result (Goes minute id c) }
 {
-    (c.expiry.at <= minute) | (c.id == id)
+    c.expiry.at <= minute || c.id == id
 }
 
 // Whether the cell goes that entry k of the leaf i is.
@@ -33,21 +33,19 @@ pub fn take_out(t: &mut [i32], h: usize, i: usize, k: usize, minute: i32, id: i3
     requires { CanTake t.old minute h i }
     ensures { Takes t.old minute id h i k result t.new }
 {
-    if count_at(t, i) <= k {
-        return false;
-    }
-    if h == 0 {
-        if goes_at(t, i, k, minute, id) {
-            remove_at(t, i, k);
-            return true;
+    for at in k..count_at(t, i) {
+        if h == 0 {
+            if goes_at(t, i, at, minute, id) {
+                remove_at(t, i, at);
+                return true;
+            }
+        } else {
+            let child = child_at(t, i, at);
+            if take_out(t, h - 1, child, 0, minute, id) {
+                mend(t, h - 1, i, at, minute);
+                return true;
+            }
         }
-        return take_out(t, h, i, k + 1, minute, id);
     }
-    let below = h - 1;
-    let child = child_at(t, i, k);
-    if take_out(&mut *t, below, child, 0, minute, id) {
-        mend(t, below, i, k, minute);
-        return true;
-    }
-    take_out(t, h, i, k + 1, minute, id)
+    false
 }

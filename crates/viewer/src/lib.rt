@@ -7,7 +7,7 @@ ghost use Rattle.track.specs.Refusals.{Gives};
 ghost use Rattle.track.specs.Report.{report_from};
 ghost use Rattle.viewer.specs.SheetAnswer.{sheet_answers};
 
-use sheet::judge::{Judged, judge};
+use sheet::judge::judge;
 use track::cell::Cell;
 use track::meeting::answer;
 use track::minute::Minute;
@@ -48,9 +48,8 @@ pub extern "C" fn bradawlet_meets(
 pub extern "C" fn bradawlet_sheet(bytes: &[u8]) -> i32
     ensures { Gives (sheet_answers bytes.now) result }
 {
-    let judged = judge(bytes, MOST_CELLS);
-    match judged {
-        Judged::WellFormed => 1,
-        Judged::Refused(why) => why.number(),
+    match judge(bytes, MOST_CELLS) {
+        Ok(()) => 1,
+        Err(why) => why.number(),
     }
 }

@@ -1,13 +1,11 @@
 -- Reading a line with an identifier: when it gives a cell, and which.
-use Rattle.std.specs.Prelude.{◌≡◌, List, [], ◌∷◌, ℕ, ℤ, pos, ◌-ℤ◌, ◌*ℤ◌, ◌<ℤ◌}
+use Rattle.std.specs.Prelude.{◌≡◌, List, [], ◌∷◌, ℕ, ℤ, pos, ◌-ℤ◌, ◌*ℤ◌, ◌<ℤ◌, Result, IfOk}
 use Rattle.track.specs.Numbers.{IsMinute, IsIdentifier, IsVelocity, IsKept, kept}
-use Rattle.track.specs.Life.{no_cell}
-use Rattle.track.specs.Refusals.{Reason, ◌when◌, First, number}
+use Rattle.track.specs.Refusals.{Reason, ◌when◌, First, number_of}
 use Rattle.track.specs.declared.cell.Cell.{Cell}
 use Rattle.wkt.specs.TrackLine.{TrackForm}
 use Rattle.wkt.specs.declared.point.Point.{Point}
-use Rattle.wkt.specs.declared.reading.TrackRead.{TrackRead}
-use Rattle.wkt.specs.declared.reading.TrackRead.TheVariants.{Read, Refused}
+use Rattle.track.specs.declared.refusal.Refusal.{Refusal}
 
 -- ---- the cell that two points give
 -- on one axis: from `a` metres at the minute m to `b` metres at the minute n, kept at z units with velocity v
@@ -45,15 +43,6 @@ pub record ReadsAs (id : ℤ) (line : List ℕ) (c : Cell) : Type 0 where
 abbrev pub track_reasons : ℤ → List ℕ → List Reason
 track_reasons id line = 14 when ((c : Cell) → ReadsAs id line c → ⊥) ∷ []
 
--- each answer's number and cell: 0 and the cell, or the refusal's number and zeros
-abbrev pub track_number : TrackRead → ℕ
-track_number (Read c) = 0
-track_number (Refused why) = number why
-
-abbrev pub track_cell : TrackRead → Cell
-track_cell (Read c) = c
-track_cell (Refused why) = no_cell
-
-pub record ReadsTrack (id : ℤ) (line : List ℕ) (r : TrackRead) : Type 0 where
-  pub refusal : First (track_reasons id line) (track_number r)
-  pub cell : track_number r ≡ 0 → ReadsAs id line (track_cell r)
+pub record ReadsTrack (id : ℤ) (line : List ℕ) (r : Result Cell Refusal) : Type 0 where
+  pub refusal : First (track_reasons id line) (number_of r)
+  pub cell : IfOk r (λ c. ReadsAs id line c)

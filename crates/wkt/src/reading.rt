@@ -10,70 +10,39 @@ ghost use Rattle.wkt.specs.Inner.TrackFound.{units_of, velocity_of, kept_of, Poi
 
 use crate::line::{LONGEST, put_line};
 use crate::point::Point;
-use decimal::reading::{NumberFound, read_number};
+use decimal::reading::read_number;
 use track::cell::{Cell, cell_in_range};
 use track::minute::{Minute, is_minute};
 use track::range::is_velocity;
 use track::refusal::Refusal;
 
-// What reading a line gives: the cell, or why there is none.
-#[derive(Clone, Copy)]
-pub enum TrackRead {
-    Read(Cell),
-    Refused(Refusal),
-}
-
-// What is found at a cursor: a point and the cursor past it.
-#[derive(Clone, Copy)]
-pub enum PointFound {
-    At(Point, usize),
-    NoPoint,
-}
-
-// What is found in a line: its two points.
-#[derive(Clone, Copy)]
-pub enum PointsFound {
-    Two(Point, Point),
-    NotTwo,
-}
-
-// The number at a cursor, which may be past the end.
-fn number_at(line: &[u8], at: usize) -> NumberFound
+// The number at a cursor, which may be past the end: its value and the cursor past it.
+fn number_at(line: &[u8], at: usize) -> Option<(i32, usize)>
     ensures { NumberRead line.now at result }
 {
     if line.len() < at {
-        return NumberFound::Bad;
+        return None;
     }
     read_number(line, at)
 }
 
-// The point at a cursor: three numbers, with a byte between each two.
-fn point_at(line: &[u8], at: usize) -> PointFound
+// The point at a cursor, three numbers with a byte between each two, and the cursor past it.
+fn point_at(line: &[u8], at: usize) -> Option<(Point, usize)>
     ensures { PointRead line.now at result }
 {
-    let NumberFound::Number(x, after_x) = number_at(line, at) else {
-        return PointFound::NoPoint;
-    };
-    let NumberFound::Number(y, after_y) = number_at(line, after_x + 1) else {
-        return PointFound::NoPoint;
-    };
-    let NumberFound::Number(minute, end) = number_at(line, after_y + 1) else {
-        return PointFound::NoPoint;
-    };
-    PointFound::At(Point { x, y, minute }, end)
+    let (x, after_x) = number_at(line, at)?;
+    let (y, after_y) = number_at(line, after_x + 1)?;
+    let (minute, end) = number_at(line, after_y + 1)?;
+    Some((Point { x, y, minute }, end))
 }
 
 // The two points of a line: the first after `LINESTRING M (`, which has fourteen bytes, the other after a comma and a space.
-fn points(line: &[u8]) -> PointsFound
+fn points(line: &[u8]) -> Option<(Point, Point)>
     ensures { PointsRead line.now result }
 {
-    let PointFound::At(first, end) = point_at(line, 14) else {
-        return PointsFound::NotTwo;
-    };
-    let PointFound::At(last, _) = point_at(line, end + 2) else {
-        return PointsFound::NotTwo;
-    };
-    PointsFound::Two(first, last)
+    let (first, end) = point_at(line, 14)?;
+    let (last, _) = point_at(line, end + 2)?;
+    Some((first, last))
 }
 
 // Metres in units, rounded to 0 where they are not whole: the comparison of the lines finds that.
@@ -107,18 +76,18 @@ fn in_order(first: Point, last: Point) -> bool
 }
 
 // The cell that goes through two points, if it is in range. Velocities are tried first, so that no product with a minute can be too large.
-fn cell_through(id: i32, first: Point, last: Point) -> TrackRead
+fn cell_through(id: i32, first: Point, last: Point) -> Option<Cell>
     ensures { CellThrough id first last result }
 {
     if !in_order(first, last) {
-        return TrackRead::Refused(Refusal::NoTrack);
+        return None;
     }
     let minutes = last.minute - first.minute;
     let vx = velocity(first.x, last.x, minutes);
     let vy = velocity(first.y, last.y, minutes);
     let slow = is_velocity(vx) & is_velocity(vy);
     if !slow {
-        return TrackRead::Refused(Refusal::NoTrack);
+        return None;
     }
     let c = Cell {
         id,
@@ -129,42 +98,26 @@ fn cell_through(id: i32, first: Point, last: Point) -> TrackRead
         expiry: Minute { at: last.minute },
     };
     if !cell_in_range(c) {
-        return TrackRead::Refused(Refusal::NoTrack);
+        return None;
     }
-    TrackRead::Read(c)
-}
-
-fn same_bytes(a: &[u8], b: &[u8]) -> bool
-    ensures { Tells result (a.now ≡ b.now) }
-{
-    if a.len() != b.len() {
-        return false;
-    }
-    let mut i = 0;
-    while i < a.len() {
-        if a[i] != b[i] {
-            return false;
-        }
-        i += 1;
-    }
-    true
+    Some(c)
 }
 
 // The cell with this identifier whose line this is.
-pub fn read_track(id: i32, line: &[u8]) -> TrackRead
+pub fn read_track(id: i32, line: &[u8]) -> Result<Cell, Refusal>
     ensures { ReadsTrack id line.now result }
 {
-    let PointsFound::Two(first, last) = points(line) else {
-        return TrackRead::Refused(Refusal::NoTrack);
+    let Some((first, last)) = points(line) else {
+        return Err(Refusal::NoTrack);
     };
-    let TrackRead::Read(c) = cell_through(id, first, last) else {
-        return TrackRead::Refused(Refusal::NoTrack);
+    let Some(c) = cell_through(id, first, last) else {
+        return Err(Refusal::NoTrack);
     };
     let mut own = [0; LONGEST];
     let n = put_line(&mut own, first.minute, c);
-    let same = same_bytes(line, &own[..n]);
+    let same = line == &own[..n];
     if !same {
-        return TrackRead::Refused(Refusal::NoTrack);
+        return Err(Refusal::NoTrack);
     }
-    TrackRead::Read(c)
+    Ok(c)
 }

@@ -33,12 +33,6 @@ filled_next {run} {w} {t} {n} {j} so_far v fits h many more =
     let at : 0 + j ≡ j = omega arith in
     subst (λ (i : ℕ). RunWritten run w (set t i v) 0 n (j + 1)) at (written_next so_far v (omega arith) h many more)
 
--- one more of the first elements of a list
-pub first_next : {A : Type 0} (l : List A) (j : ℕ) (d : A) → j < length l → part l 0 (j + 1) ≡ part l 0 j ++ (get_or l j d ∷ [])
-first_next l j d h =
-    let at : 0 + j ≡ j = omega arith in
-    part_next l 0 j d (omega arith) ∙ ap (λ (i : ℕ). part l 0 j ++ (get_or l i d ∷ [])) at
-
 pub written_all : {A : Type 0} {run : ℕ → List A} {w t : List A} {to n j : ℕ} → RunWritten run w t to n j → n ≤ j → t ≡ put w to n (run n)
 written_all {n} {j} so_far h = let e : j ≡ n = omega (arith, so_far.upto) in rw e at so_far.is
 

@@ -1,11 +1,13 @@
 // The words of a table that is lent as a slice: read, written, copied. The readers answer for every place, with 0 past the end.
 #![tactic(auto)]
 
-ghost use Rattle.std.specs.Prelude.{◌≡◌, ◌+◌, ◌^◌, ◌<◌, ◌≤◌, pos, length};
+ghost use Rattle.std.specs.Prelude.{◌≡◌, ◌+◌, ◌^◌, ◌<◌, ◌≤◌, pos, length, drop};
 ghost use Rattle.words.specs.Parts.{part, put};
 ghost use Rattle.words.specs.Inner.Parts.{CanCopy};
 ghost use Rattle.words.specs.Layout.{node_start, entry_offset, node_limit, node_words, entry_words, full_node, entry_at, set_entry};
 ghost use Rattle.words.specs.Words.{word_at, nat_of, row_at, rows_at, with_count};
+
+use std::array;
 
 // The sizes of specs/Layout.antt, for the code.
 pub const HEADER: usize = 16;
@@ -18,8 +20,8 @@ pub const ENTRY_WORDS: usize = 11;
 
 pub const FULL_NODE: usize = 8;
 
-// The words of an entry by value, ENTRY_WORDS many: an array's type takes no constant.
-pub type Entry = [i32; 11];
+// The words of an entry by value.
+pub type Entry = [i32; ENTRY_WORDS];
 
 // The place of node i's first word.
 pub fn node_start(i: usize) -> usize
@@ -41,14 +43,14 @@ pub fn entry_offset(k: usize) -> usize
 pub fn word(t: &[i32], at: usize) -> i32
     ensures { result ≡ word_at t.now at }
 {
-    if at < t.len() { t[at] } else { 0 }
+    t.get(at).copied().unwrap_or(0)
 }
 
 // A word taken for a count or an index.
 pub fn place(z: i32) -> usize
     ensures { (result ≡ nat_of z) × (result < 2 ^ 31) }
 {
-    if z < 0 { 0 } else { z as usize }
+    z.max(0) as usize
 }
 
 // The word at a place, taken for a count or an index.
@@ -66,54 +68,45 @@ pub fn word_of(n: usize) -> i32
     n as i32
 }
 
-// The four words from a place on. A place past the end is told apart, since the sums below might wrap there.
+// What is left of the table from a place on, nothing past the end.
+fn from_place(t: &[i32], at: usize) -> &[i32]
+    ensures { result.now ≡ drop at t.now }
+{
+    t.get(at..).unwrap_or(&[])
+}
+
+// The four words from a place on.
 pub fn row(t: &[i32], at: usize) -> [i32; 4]
     ensures { result ≡ row_at t.now at }
 {
-    if at < t.len() {
-        [
-            word(t, at),
-            word(t, at + 1),
-            word(t, at + 2),
-            word(t, at + 3),
-        ]
-    } else {
-        [0, 0, 0, 0]
-    }
+    let rest = from_place(t, at);
+    array::from_fn(|j| word(rest, j))
 }
 
 // The two rows from a place on.
 pub fn rows(t: &[i32], at: usize) -> [[i32; 4]; 2]
     ensures { result ≡ rows_at t.now at }
 {
-    if at < t.len() {
-        [row(t, at), row(t, at + 4)]
-    } else {
-        [[0, 0, 0, 0], [0, 0, 0, 0]]
-    }
+    let rest = from_place(t, at);
+    [row(rest, 0), row(rest, 4)]
 }
 
-// Writes numbers one after the other from a place on.
-pub fn put_run(t: &mut [i32], at: usize, numbers: &[i32])
+// Writes numbers, or elements of another type, one after the other from a place on.
+pub fn put_run<T: Copy>(t: &mut [T], at: usize, numbers: &[T])
     requires { at + length numbers.now ≤ length t.old }
     ensures { t.new ≡ put t.old at (length numbers.now) numbers.now }
 {
-    let mut j = 0;
-    while j < numbers.len() {
-        t[at + j] = numbers[j];
-        j += 1;
-    }
+    t[at..at + numbers.len()].copy_from_slice(numbers);
 }
 
-// Copies the n words from `from` on to the places from `to` on.
+// Copies the n words from `from` on to the places from `to` on. Not by the library's `copy_within`, which takes any overlap: the must-fail edit
+// overlaps_upward is a mistake of this loop.
 pub fn copy_within(t: &mut [i32], from: usize, to: usize, n: usize)
     requires { CanCopy t.old from to n }
     ensures { t.new ≡ put t.old to n (part t.old from n) }
 {
-    let mut j = 0;
-    while j < n {
+    for j in 0..n {
         t[to + j] = t[from + j];
-        j += 1;
     }
 }
 
@@ -123,9 +116,8 @@ pub fn entry(node: &[i32], k: usize) -> Entry
     ensures { result ≡ entry_at node.now k }
 {
     let a = entry_offset(k);
-    let end = a + ENTRY_WORDS;
-    let mut e = [0; 11];
-    put_run(&mut e, 0, &node[a..end]);
+    let mut e = [0; ENTRY_WORDS];
+    e.copy_from_slice(&node[a..a + ENTRY_WORDS]);
     e
 }
 

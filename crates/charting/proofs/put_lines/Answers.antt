@@ -1,63 +1,46 @@
-use mathlib.Core.Path.{◌≡◌, ◌∙◌, subst}
-use native.Mathlib.Omega.{arith}
-use lib.IntN.{ℤ}
-use mir.Syntax.{w32}
+use Rattle.std.proofs.Common.{◌≡◌, refl, ◌∙◌, Some, arith}
+use Rattle.std.specs.Int.{w32}
 use mir.Val.{to_z, of_z}
-use borrow.Author.Rules.{rules}
 use Rattle.whole.specs.Laws.Within.{word_back}
 use Rattle.table.specs.Header.{clock}
 use Rattle.leafing.specs.NextLive.{NextLive}
-use Rattle.leafing.specs.Laws.CellsPassed.{next_cell_in, next_cell_back}
-use Rattle.decimal.specs.Inner.PutBytes.{Put}
-use Rattle.decimal.specs.Laws.PutBytes.{put_long}
-use Rattle.wkt.specs.TrackLine.{LineOf}
-use Rattle.wkt.specs.Laws.TrackLine.{line_some}
-use Rattle.charting.specs.Laws.TextPasses.{lines_none, line_fits, lines_next, lines_go_on, lines_all}
+use Rattle.leafing.specs.Laws.CellsPassed.{next_cell_in}
+use Rattle.leafing.specs.Laws.LiveStep.{same_words}
+use Rattle.charting.specs.Laws.TextPasses.{lines_none, line_fits, lines_next, lines_end, lines_all}
 use Rattle.charting.proofs.put_lines.Goals as goal
-use Rattle.charting.proofs.put_lines.Goals.{After-clock-minute, After-put_line_at-at}
+use Rattle.charting.proofs.put_lines.Goals.{After-clock-minute, In-Some, In-None}
 
 clock_is : (c : After-clock-minute) → to_z w32 (of_z w32 c.clock-minute.result) ≡ clock c.args.t.now
 clock_is c = word_back c.clock-minute.result c.clock-minute.type_inv ∙ c.clock-minute.ensures
 
--- the line of the cell that was found
-line : (c : After-put_line_at-at) → to_z w32 (of_z w32 c.clock-minute.result) ≡ clock c.args.t.now
-    → Put (LineOf (clock c.args.t.now) c.in-One.c) c.loop-at.bytes c.loop-at.at c.put_line_at-at.new.out c.put_line_at-at.result
-line c at_clock = subst (λ (m : ℤ). Put (LineOf m c.in-One.c) c.loop-at.bytes c.loop-at.at c.put_line_at-at.new.out c.put_line_at-at.result) at_clock c.put_line_at-at.ensures
+-- the cell that was found
+found : (c : In-Some) → NextLive c.args.t.now c.loop-c.c-iterator.last (Some c.in-Some.c)
+found c = rw c.loop-c.invariant.0 at c.in-Some.ensures.steps.next
 
-pub loop-at-init : goal.loop-at-init
-loop-at-init c = lines_none c.requires
-
-pub next_of_sound-requires : goal.next_of_sound-requires
-next_of_sound-requires c = c.requires.sound
-
-pub shape_of-bytes-in_default : goal.shape_of-bytes-in_default
-shape_of-bytes-in_default c = put_long c.loop-at.invariant.holds
-
-pub returns-in_default : goal.returns-in_default
-returns-in_default c =
-    absurd (lines_go_on c.requires c.loop-at.invariant (search rules) (subst (NextLive c.args.t.now (to_z w32 c.loop-at.last-bits)) c.in_default.is c.next_of_sound.ensures))
+pub loop-c-init : goal.loop-c-init
+loop-c-init c = rw (c.into_iter-c-iterator.ensures.into_iter_gives, c.of-c-items.ensures.same_table, c.of-c-items.ensures.from_start) (refl, lines_none c.requires)
 
 pub put_line_at-at-requires : goal.put_line_at-at-requires
 put_line_at-at-requires c =
+    let at = goal.at.put_line_at-at-requires c in
     let can = c.requires in
-    let found = subst (NextLive c.args.t.now (to_z w32 c.loop-at.last-bits)) c.in-One.is c.next_of_sound.ensures in
-    rw (clock_is (goal.at.put_line_at-at-requires c).After-clock-minute) (next_cell_in can.sound found, can.sound.clock_in, found.is_one.in_life, line_fits can c.loop-at.invariant _ found)
+    let next = found at.In-Some in
+    rw (clock_is at.After-clock-minute) (next_cell_in can.sound next, can.sound.clock_in, next.is_one.in_life, line_fits can c.loop-c.invariant.1 _ next)
 
-pub loop-at-smaller : goal.loop-at-smaller
-loop-at-smaller c =
-    let at = goal.at.loop-at-smaller c in
-    let p = line at.After-put_line_at-at (clock_is at.After-clock-minute) in
-    omega (arith, p.end, line_some p.spelt, c.loop-at-test.true)
+pub loop-c-preserved : goal.loop-c-preserved
+loop-c-preserved c =
+    let at = goal.at.loop-c-preserved c in
+    let step = c.in-Some.ensures.steps in
+    let inv = c.loop-c.invariant in
+    let written = lines_next c.requires inv.1 _ (found at.In-Some) (rw (clock_is at.After-clock-minute) at c.put_line_at-at.ensures) in
+    (same_words step ∙ inv.0, rw step.goes_on written)
 
-pub loop-at-preserved : goal.loop-at-preserved
-loop-at-preserved c =
-    let at = goal.at.loop-at-preserved c in
-    let can = c.requires in
-    let found = subst (NextLive c.args.t.now (to_z w32 c.loop-at.last-bits)) c.in-One.is c.next_of_sound.ensures in
-    rw (next_cell_back can.sound found) (lines_next can c.loop-at.invariant _ found (line at.After-put_line_at-at (clock_is at.After-clock-minute)))
+-- none is left, so all that was measured is written
+end : (c : In-None) → c.args.total ≡ c.loop-c.at
+end c = let inv = c.loop-c.invariant in lines_end c.requires inv.1 (rw inv.0 at c.in-None.ensures.steps.next)
 
-pub shape_of-bytes : goal.shape_of-bytes
-shape_of-bytes c = put_long c.loop-at.invariant.holds
+pub prove_eq-unreachable-requires : goal.prove_eq-unreachable-requires
+prove_eq-unreachable-requires c = omega (arith, end (goal.at.prove_eq-unreachable-requires c).In-None, c.if-prove_eq.true)
 
 pub returns : goal.returns
-returns c = lines_all c.requires c.loop-at.invariant (search rules)
+returns c = lines_all c.requires c.loop-c.invariant.1 (omega (arith, end (goal.at.returns c).In-None))

@@ -1,5 +1,5 @@
 -- The two passes of the writing, one law for each turn of their loops: lines are measured, then put one after the other.
-use Rattle.std.specs.Prelude.{◌≡◌, refl, List, [], ◌∷◌, ◌++◌, ℕ, ◌+◌, ◌*◌, ◌≤◌, ◌<◌, ℤ, pos, length}
+use Rattle.std.specs.Prelude.{◌≡◌, refl, List, [], ◌∷◌, ◌++◌, ℕ, ◌+◌, ◌*◌, ◌≤◌, ◌<◌, ℤ, pos, length, Some, None}
 use Rattle.std.proofs.Common.{sym, ap, subst, arith, length-append}
 use mathlib.Core.List.Memᴰ
 use Rattle.track.specs.declared.cell.Cell.{Cell}
@@ -10,7 +10,6 @@ use Rattle.leafing.specs.Leafed.{Leafed}
 use Rattle.leafing.specs.Laws.Leafed.{leafed_fixed, leafed_only}
 use Rattle.leafing.specs.Laws.LiveCells.{live_in_range}
 use Rattle.leafing.specs.Laws.CellsPassed.{CellsPassed, pass_none, pass_first, pass_end, pass_one, pass_few, pass_all, next_cell_in}
-use Rattle.leafing.specs.declared.search.Next.TheVariants.{One, None}
 use Rattle.decimal.specs.Inner.PutBytes.{EndsBy, Put}
 use Rattle.decimal.specs.Laws.PutBytes.{put_then, put_long, put_nothing}
 use Rattle.wkt.specs.TrackLine.{LineOf}
@@ -29,7 +28,7 @@ module _ {w : List ℤ} (sound : Sound w) where
   measuring_none = pass_none sound (record { text = []; is_text = no_line; long = refl })
 
   module _ {last : ℤ} {n : ℕ} (so_far : Measuring w last n) where
-    pub measuring_next : (c : Cell) → NextLive w last (One c) → {k : ℕ} → LineLong (clock w) c k → Measuring w c.id (n + k)
+    pub measuring_next : (c : Cell) → NextLive w last (Some c) → {k : ℕ} → LineLong (clock w) c k → Measuring w c.id (n + k)
     measuring_next c next line =
         let so = so_far.holds in
         pass_one sound so_far c next (record {
@@ -39,7 +38,7 @@ module _ {w : List ℤ} (sound : Sound w) where
         })
 
     -- the line finds room among as many as a table may hold
-    pub measuring_few : (c : Cell) → NextLive w last (One c) → {k : ℕ} → LineLong (clock w) c k → n + k ≤ longest * greatest_capacity
+    pub measuring_few : (c : Cell) → NextLive w last (Some c) → {k : ℕ} → LineLong (clock w) c k → n + k ≤ longest * greatest_capacity
     measuring_few c next line =
         let so = so_far.holds in
         let passed = text_few sound.clock_in (λ d m. live_in_range sound (leafed_only sound so_far.leafed d (Memᴰ.append_left so_far.left m))) so.is_text in
@@ -67,7 +66,7 @@ module _ {w : List ℤ} {bytes : List ℕ} {n : ℕ} (can : CanPutText w bytes n
         omega (arith, m.long, ap length same, length-append text rest, so_far.holds.end)
 
     -- the next line has room
-    pub line_fits : (c : Cell) → NextLive w last (One c) → EndsBy (LineOf (clock w) c) at (length t)
+    pub line_fits : (c : Cell) → NextLive w last (Some c) → EndsBy (LineOf (clock w) c) at (length t)
     line_fits c next = λ line g. by line g (pass_first can.sound so_far c next)
       where
         by : (line : List ℕ) → LineOf (clock w) c line → (later : List Cell) × (so_far.left ≡ c ∷ later) × Leafed w c.id later → at + length line ≤ length t
@@ -76,12 +75,16 @@ module _ {w : List ℤ} {bytes : List ℕ} {n : ℕ} (can : CanPutText w bytes n
             let here = subst (λ (l : List Cell). TextOf (clock w) l (line ++ more.0)) (sym first) (line_then g more.1) in
             omega (arith, all_text here, length-append line more.0, can.room, put_long so_far.holds)
 
-    pub lines_next : (c : Cell) → NextLive w last (One c) → {u : List ℕ} {r : ℕ} → Put (LineOf (clock w) c) t at u r → PuttingLines w bytes c.id r u
+    pub lines_next : (c : Cell) → NextLive w last (Some c) → {u : List ℕ} {r : ℕ} → Put (LineOf (clock w) c) t at u r → PuttingLines w bytes c.id r u
     lines_next c next p = pass_one can.sound so_far c next (put_then so_far.holds p (λ s l g h. text_append g (text_one h)))
 
-    -- a cell is left as long as not all is written
+    -- all is written where no cell is left
+    pub lines_end : NextLive w last None → n ≡ at
+    lines_end next = omega (arith, all_text (subst (λ (l : List Cell). TextOf (clock w) l []) (sym (pass_end can.sound so_far next)) no_line))
+
+    -- so a cell is left as long as not all is written
     pub lines_go_on : at < n → NextLive w last None → ⊥
-    lines_go_on lt next = omega (arith, all_text (subst (λ (l : List Cell). TextOf (clock w) l []) (sym (pass_end can.sound so_far next)) no_line))
+    lines_go_on lt next = omega (arith, lines_end next)
 
     pub lines_all : n ≤ at → PutsText w bytes n t
     lines_all le =

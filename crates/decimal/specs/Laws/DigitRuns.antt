@@ -22,7 +22,7 @@ pub one_digit_more : {s : List ℕ} {b : ℕ} → AllDigits s → IsDigit b → 
 one_digit_more none h = and h none
 one_digit_more (and g a) h = and g (one_digit_more a h)
 
-digit_at : {s : List ℕ} → AllDigits s → (i : ℕ) → i < length s → IsDigit (get_or s i 0)
+pub digit_at : {s : List ℕ} → AllDigits s → (i : ℕ) → i < length s → IsDigit (get_or s i 0)
 digit_at none i h = absurd (not-suc-le-zero h)
 digit_at (and d a) zero h = d
 digit_at (and d a) (suc i) h = digit_at a i (le_of_suc-le-suc h)

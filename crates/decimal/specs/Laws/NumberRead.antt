@@ -1,5 +1,5 @@
 -- A law for each way through the code that reads digits and a number.
-use Rattle.std.specs.Prelude.{◌≡◌, List, [], ◌∷◌, ◌++◌, ℕ, ◌+◌, ◌^◌, ◌≤◌, ◌<◌, ℤ, pos, neg_ℤ, length, get_or, drop}
+use Rattle.std.specs.Prelude.{◌≡◌, List, [], ◌∷◌, ◌++◌, ℕ, ◌+◌, ◌^◌, ◌≤◌, ◌<◌, ℤ, pos, neg_ℤ, Option, Some, None, length, get_or, drop}
 use Rattle.std.proofs.Common.{sym, ap, ◌∙◌, add-one, arith, length-append, take-append-drop, drop_of_length-le, drop-cons, drop-drop}
 use Rattle.whole.specs.Within.{Within}
 use Rattle.words.specs.Parts.{part}
@@ -9,8 +9,6 @@ use Rattle.decimal.specs.Inner.DigitRuns.{Stops, DigitsEnd}
 use Rattle.decimal.specs.Inner.NumberRead.{Plain, DigitsRead, NumberRead}
 use Rattle.decimal.specs.Laws.DigitRuns.{digits_all, digits_cut_once}
 use Rattle.decimal.specs.Laws.Spells.{spells_in, minus_first}
-use Rattle.decimal.specs.declared.reading.NumberFound.{NumberFound}
-use Rattle.decimal.specs.declared.reading.NumberFound.TheVariants.{Number, Bad}
 
 -- ---- what stands at a cursor
 rest_of : (line : List ℕ) (at n : ℕ) → part line at n ++ drop (at + n) line ≡ drop at line
@@ -44,10 +42,10 @@ module _ (line : List ℕ) (at : ℕ) where
       let many : length p.spelling ≡ k = ap length same.0 ∙ length_part line at k run.inside in
       (omega (arith, many, p.some), omega (arith, many, p.few))
 
-  pub wrong_count : {k : ℕ} → DigitsEnd line at k → ((1 ≤ k) × (k ≤ 9) → ⊥) → DigitsRead line at Bad
+  pub wrong_count : {k : ℕ} → DigitsEnd line at k → ((1 ≤ k) × (k ≤ 9) → ⊥) → DigitsRead line at None
   wrong_count run h = λ n rest p. h (as_many run p)
 
-  pub enough : {k n : ℕ} {z : ℤ} → DigitsEnd line at k → (1 ≤ k) × (k ≤ 9) → Digits n (part line at k) → z ≡ pos n → DigitsRead line at (Number z (at + k))
+  pub enough : {k n : ℕ} {z : ℤ} → DigitsEnd line at k → (1 ≤ k) × (k ≤ 9) → Digits n (part line at k) → z ≡ pos n → DigitsRead line at (Some (z, at + k))
   enough {k} {n} run right g e =
       let many = length_part line at k run.inside in (
         n,
@@ -63,21 +61,21 @@ module _ (line : List ℕ) (at : ℕ) where
         },
       )
 
-  pub digits_in : {z : ℤ} (next : ℕ) → DigitsRead line at (Number z next) → Within (10 ^ 9) z
+  pub digits_in : {z : ℤ} (next : ℕ) → DigitsRead line at (Some (z, next)) → Within (10 ^ 9) z
   digits_in next (n, e, inside, p) = rw e (spells_in (plain p.digits p.some p.few))
 
   -- ---- a number
-  pub no_number_left : length line ≤ at → NumberRead line at Bad
+  pub no_number_left : length line ≤ at → NumberRead line at None
   no_number_left h = λ z rest b. none_begins rest b.spells (sym (drop_of_length-le line h) ∙ b.is)
 
-  pub unsigned : (r : NumberFound) → at < length line → (get_or line at 0 ≡ 45 → ⊥) → DigitsRead line at r → NumberRead line at r
-  unsigned (Number z next) h other (n, e, inside, p) =
+  pub unsigned : (r : Option (ℤ × ℕ)) → at < length line → (get_or line at 0 ≡ 45 → ⊥) → DigitsRead line at r → NumberRead line at r
+  unsigned (Some (z, next)) h other (n, e, inside, p) =
       (inside, record { spelling = p.spelling; spells = rw e (plain p.digits p.some p.few); stops = p.stops; is = p.is })
-  unsigned Bad h other none = λ z rest b.
+  unsigned None h other none = λ z rest b.
       let r = without_minus b.spells b.stops b.is (λ q e. other (first_of h e)) in
       none r.0 rest r.1
 
-  pub negative : {y z : ℤ} (next : ℕ) → at < length line → get_or line at 0 ≡ 45 → DigitsRead line (at + 1) (Number y next) → z ≡ neg_ℤ y → NumberRead line at (Number z next)
+  pub negative : {y z : ℤ} (next : ℕ) → at < length line → get_or line at 0 ≡ 45 → DigitsRead line (at + 1) (Some (y, next)) → z ≡ neg_ℤ y → NumberRead line at (Some (z, next))
   negative next h first (n, e, inside, p) f = (
     inside,
     record {
@@ -88,7 +86,7 @@ module _ (line : List ℕ) (at : ℕ) where
     },
   )
 
-  pub not_negative : at < length line → get_or line at 0 ≡ 45 → DigitsRead line (at + 1) Bad → NumberRead line at Bad
+  pub not_negative : at < length line → get_or line at 0 ≡ 45 → DigitsRead line (at + 1) None → NumberRead line at None
   not_negative h first none = λ z rest b.
       let r = with_minus b.spells b.stops b.is (first_is h 45 first) in
       none r.0 rest r.1

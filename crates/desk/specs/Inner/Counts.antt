@@ -1,10 +1,10 @@
--- What a read answers, as a number, and how many bytes that is.
-use Rattle.std.specs.Prelude.{◌≡◌, List, ℕ, ◌≤◌, ℤ, pos, negsuc, min, length, take}
+-- What a read answers, and how many bytes that is.
+use Rattle.std.specs.Prelude.{◌≡◌, Option, Some, None, List, ℕ, ◌≤◌, ℤ, pos, negsuc, min, length, take}
 
--- what a read that is lent n bytes may answer: -1, or how many came in, at most n
-abbrev pub Moved : ℕ → ℤ → Type 0
-Moved n (pos k) = k ≤ n
-Moved n (negsuc k) = k ≡ 0
+-- what a read that is lent n bytes may answer: nothing where it fails, or the bytes that came in, at most n
+abbrev pub Moved : ℕ → Option (List ℕ) → Type 0
+Moved n (Some bytes) = length bytes ≤ n
+Moved n None = Unit {0}
 
 -- the first n of these bytes are there, and are n
 abbrev pub IsPrefixLen : ℕ → List ℕ → Type 0

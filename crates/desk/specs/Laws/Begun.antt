@@ -8,10 +8,13 @@ use Rattle.table.specs.Header.{words_for}
 use Rattle.table.specs.Fresh.{fresh_reasons, MakesFresh, IsFresh}
 use Rattle.desk_serve.specs.Answered.{desk_cells}
 
-pub made_fresh : {w v : List ℤ} {n : ℕ} → length w ≡ words_for desk_cells → MakesFresh (pos desk_cells) w n v → IsFresh (pos desk_cells) w v
-made_fresh {w} {n} long made = made.accepted (by made.refusal)
+pub made_unrefused : {w v : List ℤ} {n : ℕ} → length w ≡ words_for desk_cells → MakesFresh (pos desk_cells) w n v → n ≡ 0
+made_unrefused {w} {n} long made = by made.refusal
   where
     by : First (fresh_reasons (pos desk_cells) w) n → n ≡ 0
     by (inl h) = absurd (h.0 (record { from = le_z_yes tt; to = le_z_yes tt }))
     by (inr (h, inl g)) = absurd (omega (arith, rw (nat_of-pos desk_cells) at g.0))
     by (inr (h, inr (k, g))) = g
+
+pub made_fresh : {w v : List ℤ} {n : ℕ} → length w ≡ words_for desk_cells → MakesFresh (pos desk_cells) w n v → IsFresh (pos desk_cells) w v
+made_fresh long made = made.accepted (made_unrefused long made)

@@ -1,9 +1,7 @@
 -- Turns one after the other: what they have heard so far, and the run that they come to.
-use Rattle.std.specs.Prelude.{◌≡◌, refl, Bool, true, List, ◌++◌, ℕ, zero, suc, ℤ, pos, negsuc, length, take}
+use Rattle.std.specs.Prelude.{◌≡◌, refl, Bool, true, Option, Some, None, List, [], ◌∷◌, ◌++◌, ℕ, ℤ, take}
 use Rattle.std.proofs.Common.{sym, ◌∙◌, inl, inr, arith}
 use Rattle.std.proofs.lemmas.Bool.{false≢true}
-use Rattle.std.specs.Int.Signed.{lt_z_yes}
-use Rattle.desk.specs.Inner.Counts.{Moved}
 use Rattle.desk.specs.Talked.{HearsAll, Talked, Turned, Ran}
 use Rattle.desk.specs.Laws.Talking.{hears_then}
 
@@ -18,17 +16,17 @@ module _ {w : List ℤ} {buffer : List ℕ} {held : ℕ} {t : List ℤ} {buffer'
   talked_on : {bytes : List ℕ} {v : List ℤ} {buffer'' : List ℕ} {held'' : ℕ} {told : Bool} → Talked t buffer' held' bytes v buffer'' held'' told → HeardSome w buffer held v buffer'' held''
   talked_on {bytes} talked = (so_far.0 ++ take talked.far bytes, hears_then so_far.1 talked.hears)
 
-  module _ {piece : List ℕ} {v : List ℤ} {buffer'' : List ℕ} {held'' : ℕ} {on : Bool} where
+  module _ {v : List ℤ} {buffer'' : List ℕ} {held'' : ℕ} {on : Bool} where
     -- the turn says that more is to be read
-    pub turned_on : (got : ℤ) → Moved (length piece) got → Turned got t buffer' held' piece v buffer'' held'' on → on ≡ true → HeardSome w buffer held v buffer'' held''
-    turned_on (negsuc k) moved turned is = absurd (false≢true (sym (turned.failed (lt_z_yes tt)).3 ∙ is))
-    turned_on (pos zero) moved turned is = absurd (false≢true (sym (turned.ended refl).3 ∙ is))
-    turned_on (pos (suc k)) moved turned is = talked_on (turned.came (suc k) refl (omega arith) moved)
+    pub turned_on : (got : Option (List ℕ)) → Turned got t buffer' held' v buffer'' held'' on → on ≡ true → HeardSome w buffer held v buffer'' held''
+    turned_on None turned is = absurd (false≢true (sym (turned.failed refl).3 ∙ is))
+    turned_on (Some []) turned is = absurd (false≢true (sym (turned.ended refl).3 ∙ is))
+    turned_on (Some (b ∷ piece)) turned is = talked_on (turned.came (b ∷ piece) refl (omega arith))
 
     -- the turn is the last one
-    pub turned_last : (got : ℤ) → Moved (length piece) got → Turned got t buffer' held' piece v buffer'' held'' on → Ran w buffer held v buffer'' held''
-    turned_last (negsuc k) moved turned = let as_it_was = turned.failed (lt_z_yes tt) in rw (as_it_was.0, as_it_was.1, as_it_was.2) (ran_out so_far)
-    turned_last (pos zero) moved turned =
+    pub turned_last : (got : Option (List ℕ)) → Turned got t buffer' held' v buffer'' held'' on → Ran w buffer held v buffer'' held''
+    turned_last None turned = let as_it_was = turned.failed refl in rw (as_it_was.0, as_it_was.1, as_it_was.2) (ran_out so_far)
+    turned_last (Some []) turned =
         let end = turned.ended refl in
         rw (end.1, end.2) (record { bytes = so_far.0; u = t; hears = so_far.1; last = inr end.0 })
-    turned_last (pos (suc k)) moved turned = ran_out (talked_on (turned.came (suc k) refl (omega arith) moved))
+    turned_last (Some (b ∷ piece)) turned = ran_out (talked_on (turned.came (b ∷ piece) refl (omega arith)))

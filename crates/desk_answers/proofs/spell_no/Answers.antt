@@ -2,12 +2,9 @@ use Rattle.std.proofs.Common.{ap, ◌∙◌, arith, length}
 use Rattle.whole.specs.Laws.Within.{back}
 use Rattle.words.specs.Words.{nat_of}
 use Rattle.decimal.specs.Laws.PutBytes.{put_long, room_ten, ends_by_ten, word_end}
-use Rattle.desk_answers.specs.Laws.PutLines.{spelt_whole, spelt_not}
+use Rattle.desk_answers.specs.Laws.PutLines.{spelt_whole}
 use Rattle.desk_answers.specs.Laws.AnswerLines.{no_line}
 use Rattle.desk_answers.proofs.spell_no.Goals as goal
-
-pub returns-then-out-lt-NO_ROOM : goal.returns-then-out-lt-NO_ROOM
-returns-then-out-lt-NO_ROOM c = spelt_not 14 c.if-out-lt-NO_ROOM.true
 
 pub put_decimal-end-requires : goal.put_decimal-end-requires
 put_decimal-end-requires c =

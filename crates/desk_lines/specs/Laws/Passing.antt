@@ -1,11 +1,11 @@
--- What holds at each turn of the two passes over a line: letter by letter along a word, and field by field.
-use Rattle.std.specs.Prelude.{◌≡◌, refl, Bool, false, List, [], ◌∷◌, ◌++◌, ℕ, ◌+◌, ◌≤◌, ◌<◌, T, ℤ, pos, length, get_or, take, drop, set}
+-- What holds along a line: letter by letter of a word that it begins with, and at each turn of the pass over its fields.
+use Rattle.std.specs.Prelude.{◌≡◌, refl, Bool, true, false, List, [], ◌∷◌, ◌++◌, ℕ, ◌+◌, ◌≤◌, ◌<◌, T, ℤ, pos, None, length, get_or, take, drop, set}
 use Rattle.std.proofs.Common.{ap, ◌∙◌, append_assoc, append-nil, add-one, arith, length-set, length-append, length-drop, drop_of_length-le, drop-cons, take-suc, take-suc-set, take_all}
+use Rattle.std.specs.Bool.{then_some}
 use Rattle.std.proofs.Math.ListN.{get_or-append}
 use Rattle.desk_lines.specs.Forms.{Fields, no_field}
 use Rattle.desk_lines.specs.Laws.Fields.{fields_nil}
 use Rattle.desk_lines.specs.Inner.FieldsRead.{FieldAt, FieldRead, FieldsRead}
-use Rattle.decimal.specs.declared.reading.NumberFound.TheVariants.{Bad}
 
 -- ---- a word
 module _ (line word : List ℕ) where
@@ -35,24 +35,24 @@ module _ (line word : List ℕ) where
   shorter h e = omega (arith, ap length e, length-append word (drop (length word) line))
 
 -- ---- fields
--- as many fields of l as k are passed, and their numbers are the first of `out`; what is left stands at the cursor
-pub record FieldsPassed (line : List ℕ) (from : ℕ) (before out : List ℤ) (at k : ℕ) : Type 0 where
-  pub upto : k ≤ length before
-  pub long : length out ≡ length before
+-- as many of a line's n fields as k are passed, and their numbers are the first of `out`; what is left stands at the cursor
+pub record FieldsPassed (line : List ℕ) (n : ℕ) (out : List ℤ) (at k : ℕ) : Type 0 where
+  pub upto : k ≤ n
+  pub long : length out ≡ n
   pub inside : at ≤ length line
-  pub more : (zs : List ℤ) → Fields zs (drop at line) → Fields (take k out ++ zs) (drop from line)
-  pub only : (zs : List ℤ) → length zs ≡ length before → Fields zs (drop from line) → Fields (drop k zs) (drop at line)
+  pub more : (zs : List ℤ) → Fields zs (drop at line) → Fields (take k out ++ zs) line
+  pub only : (zs : List ℤ) → length zs ≡ n → Fields zs line → Fields (drop k zs) (drop at line)
 
-pub fields_passed_none : {line : List ℕ} {from : ℕ} {before : List ℤ} → from ≤ length line → FieldsPassed line from before before from 0
-fields_passed_none h = record { upto = omega arith; long = refl; inside = h; more = λ zs f. f; only = λ zs e f. f }
+pub fields_passed_none : {line : List ℕ} {n : ℕ} {out : List ℤ} → length out ≡ n → FieldsPassed line n out 0 0
+fields_passed_none e = record { upto = omega arith; long = e; inside = omega arith; more = λ zs f. f; only = λ zs e f. f }
 
-module _ {line : List ℕ} {from : ℕ} {before out : List ℤ} {at k : ℕ} (p : FieldsPassed line from before out at k) where
-  left : k < length before → (zs : List ℤ) → length zs ≡ length before → Fields zs (drop from line) → Fields (get_or zs k (pos 0) ∷ drop (k + 1) zs) (drop at line)
+module _ {line : List ℕ} {n : ℕ} {out : List ℤ} {at k : ℕ} (p : FieldsPassed line n out at k) where
+  left : k < n → (zs : List ℤ) → length zs ≡ n → Fields zs line → Fields (get_or zs k (pos 0) ∷ drop (k + 1) zs) (drop at line)
   left h zs e f =
       let below : k < length zs = omega arith in
       rw (drop-cons zs k (pos 0) below, ← add-one) at (p.only zs e f)
 
-  pub fields_passed_next : {z : ℤ} {next : ℕ} → k < length before → FieldAt line at z next → FieldsPassed line from before (set out k z) next (k + 1)
+  pub fields_passed_next : {z : ℤ} {next : ℕ} → k < n → FieldAt line at z next → FieldsPassed line n (set out k z) next (k + 1)
   fields_passed_next {z} h f = record {
     upto = omega arith;
     long = length-set out k z ∙ p.long;
@@ -63,23 +63,18 @@ module _ {line : List ℕ} {from : ℕ} {before out : List ℤ} {at k : ℕ} (p 
     only = λ zs e g. f.only (get_or zs k (pos 0)) (drop (k + 1) zs) (left h zs e g);
   }
 
-  pub fields_passed_bad : k < length before → FieldRead line at Bad → FieldsRead (drop from line) before out false
-  fields_passed_bad h none = record {
-    long = p.long;
-    found = λ t. absurd t;
-    seen = λ zs e f. absurd (none (get_or zs k (pos 0)) (drop (k + 1) zs) (left h zs e f));
-  }
+  -- a field is missing
+  pub fields_passed_bad : k < n → FieldRead line at None → FieldsRead line n None
+  fields_passed_bad h none = λ zs e f. none (get_or zs k (pos 0)) (drop (k + 1) zs) (left h zs e f)
 
-  pub fields_passed_all : (r : Bool) → length before ≤ k → (T r → length line ≤ at) → (length line ≤ at → T r) → FieldsRead (drop from line) before out r
-  fields_passed_all r h sure seen = record {
-    long = p.long;
-    found = λ t.
-        let end : drop at line ≡ [] = drop_of_length-le line (sure t) in
-        let all : take k out ≡ out = take_all k out (omega (arith, p.long)) in
-        rw (all, append-nil) at (p.more [] (rw end no_field));
-    seen = λ zs e f.
-        let short : length zs ≤ k = omega arith in
-        let end : drop k zs ≡ [] = drop_of_length-le zs short in
-        let none = fields_nil (rw end at (p.only zs e f)) in
-        seen (omega (arith, p.inside, ap length none, length-drop at line));
-  }
+  -- whether the line has no more than the fields
+  pub fields_passed_all : (r : Bool) → n ≤ k → (T r → length line ≤ at) → (length line ≤ at → T r) → FieldsRead line n (then_some r out)
+  fields_passed_all true h sure seen =
+      let end : drop at line ≡ [] = drop_of_length-le line (sure tt) in
+      let all : take k out ≡ out = take_all k out (omega (arith, p.long)) in
+      (p.long, rw (all, append-nil) at (p.more [] (rw end no_field)))
+  fields_passed_all false h sure seen = λ zs e f.
+      let short : length zs ≤ k = omega arith in
+      let end : drop k zs ≡ [] = drop_of_length-le zs short in
+      let none = fields_nil (rw end at (p.only zs e f)) in
+      absurd (seen (omega (arith, p.inside, ap length none, length-drop at line)))

@@ -1,6 +1,6 @@
 -- A table and a line have one answer, and tables that are alike answer every line alike.
-use Rattle.std.specs.Prelude.{◌≡◌, refl, ◌⊎◌, List, [], ◌∷◌, ◌++◌, ℕ, zero, suc, ◌≤◌, ℤ, pos, length, take, drop}
-use Rattle.std.proofs.Common.{sym, ap₂, ◌∙◌, subst, inl, inr, arith}
+use Rattle.std.specs.Prelude.{◌≡◌, refl, Option, Some, None, List, [], ◌∷◌, ◌++◌, ℕ, zero, suc, ◌≤◌, ℤ, pos, length, take, drop, Result, Ok, Err}
+use Rattle.std.proofs.Common.{sym, ap₂, ◌∙◌, subst, arith}
 use Rattle.std.proofs.Math.Decide.{dec_le, ℕ_discrete}
 use Rattle.std.proofs.Math.Seq.{take-append_seam}
 use Rattle.track.specs.Refusals.{First}
@@ -12,11 +12,9 @@ use Rattle.tree.specs.Steps.{report_refusals, drop_refusals}
 use Rattle.query.specs.Hits.{Hits}
 use Rattle.query.specs.Queried.{answer_number, answer_hits}
 use Rattle.query.specs.Laws.Queried.{hits_fixed}
-use Rattle.query.specs.declared.answer.Answer.{Answer}
-use Rattle.query.specs.declared.answer.Answer.TheVariants.{Listed, TooMany, Refused}
-use Rattle.desk_lines.specs.Forms.{IsForm, ReadsLine}
+use Rattle.desk_lines.specs.Forms.{ReadsLine}
 use Rattle.desk_lines.specs.declared.Line.{Line}
-use Rattle.desk_lines.specs.declared.Line.TheVariants.{Cell, Drop, When, Move, Bad}
+use Rattle.desk_lines.specs.declared.Line.TheVariants.{Cell, Drop, When, Move}
 use Rattle.desk_answers.specs.AnswerLines.{NoLine, HitsLine}
 use Rattle.desk_answers.specs.Laws.AnswerLines.{one_no, one_hits}
 use Rattle.desk_lines.specs.Lines.{CutInto, last_line}
@@ -24,21 +22,21 @@ use Rattle.desk_lines.specs.Laws.Lines.{cut_once}
 use Rattle.desk_serve.specs.Answered.{longest_line, desk_cells, AnswerLine, QueryLine, OutcomeLine, StepLine, IsLine, FormLine, Answered, Session, no_line, and_line}
 use Rattle.alike.specs.Alike.{Alike}
 use Rattle.alike.proofs.Laws.Alike.{query_number, ids_alike, report_alike, drop_alike, fresh_alike, alike_itself, reasons_at}
+use Rattle.query.specs.declared.answer.NotListed.TheVariants.{TooMany, Refused}
+use Rattle.query.specs.declared.answer.Found.{Found}
+use Rattle.query.specs.declared.answer.NotListed.{NotListed}
 
 -- ---- what a line is
-same_reading : {line : List ℕ} {f g : Line} → ReadsLine line f → ReadsLine line g → f ≡ g
-same_reading {line} {f} {g} a b = by a.right b.right
-  where
-    by : (f ≡ Bad) ⊎ IsForm f line → (g ≡ Bad) ⊎ IsForm g line → f ≡ g
-    by (inr p) q = b.only f p
-    by (inl p) (inr q) = sym (a.only g q)
-    by (inl p) (inl q) = p ∙ sym q
+same_reading : {line : List ℕ} (f g : Option Line) → ReadsLine line f → ReadsLine line g → f ≡ g
+same_reading (Some f) g a b = sym (b.only f (a.right f refl))
+same_reading None (Some g) a b = a.only g (b.right g refl)
+same_reading None None a b = refl
 
-pub same_line : {line : List ℕ} {f g : Line} → IsLine line f → IsLine line g → f ≡ g
+pub same_line : {line : List ℕ} {f g : Option Line} → IsLine line f → IsLine line g → f ≡ g
 same_line {line} {f} {g} a b = by (dec_le (length line) longest_line)
   where
     by : Dec (length line ≤ longest_line) → f ≡ g
-    by (yes h) = same_reading (a.short h) (b.short h)
+    by (yes h) = same_reading f g (a.short h) (b.short h)
     by (no h) = a.long (omega arith) ∙ sym (b.long (omega arith))
 
 -- ---- reports and drops
@@ -52,15 +50,15 @@ step_fixed {b} same p q =
     outcome_line_fixed p.number p.spelt (rw (← e) at q.spelt)
 
 -- ---- queries
-as_hits : (r : Answer) (list : List ℤ) {a : List ℕ} → answer_number r ≡ 0 → AnswerLine r list a → HitsLine (take (answer_hits r) list) a
-as_hits (Listed f) list e p = p
-as_hits (TooMany n) list e p = absurd (omega arith)
-as_hits (Refused x) list e p = absurd (refused_not_zero x e)
+as_hits : (r : Result Found NotListed) (list : List ℤ) {a : List ℕ} → answer_number r ≡ 0 → AnswerLine r list a → HitsLine (take (answer_hits r) list) a
+as_hits (Ok f) list e p = p
+as_hits (Err (TooMany n)) list e p = absurd (omega arith)
+as_hits (Err (Refused x)) list e p = absurd (refused_not_zero x e)
 
-as_no : (r : Answer) (list : List ℤ) {a : List ℕ} → (answer_number r ≡ 0 → ⊥) → AnswerLine r list a → NoLine (pos (answer_number r)) a
-as_no (Listed f) list n p = absurd (n refl)
-as_no (TooMany m) list n p = p
-as_no (Refused x) list n p = p
+as_no : (r : Result Found NotListed) (list : List ℤ) {a : List ℕ} → (answer_number r ≡ 0 → ⊥) → AnswerLine r list a → NoLine (pos (answer_number r)) a
+as_no (Ok f) list n p = absurd (n refl)
+as_no (Err (TooMany m)) list n p = p
+as_no (Err (Refused x)) list n p = p
 
 -- two lines with one number, and with the same identifiers where nothing is refused
 query_same : {w v : List ℤ} {B : Type 0} {q : Query} {a b : List ℕ} (p : QueryLine w B q a) (p' : QueryLine v B q b) → answer_number p.answer ≡ answer_number p'.answer
@@ -95,17 +93,17 @@ query_alike {B} {q} alike p p' =
     (λ e ids jds h j. ids_alike {B = B} {places = desk_cells} alike (tried p) e h j)
 
 -- ---- a form, and a line
-form_fixed : (f : Line) (w v u : List ℤ) {a b : List ℕ} → FormLine f w v a → FormLine f w u b → a ≡ b
-form_fixed (Cell r) w v u p q = step_fixed (λ i j s t. first_fixed (report_refusals w r) i j s.refusal t.refusal) p q
-form_fixed (Drop d) w v u p q = step_fixed (λ i j s t. first_fixed (drop_refusals w d.id d.minute) i j s.refusal t.refusal) p q
-form_fixed (When k) w v u p q = query_line_fixed p.1 q.1
-form_fixed (Move k) w v u p q = query_line_fixed p.1 q.1
-form_fixed Bad w v u p q = p.1 ∙ sym q.1
+form_fixed : (f : Option Line) (w v u : List ℤ) {a b : List ℕ} → FormLine f w v a → FormLine f w u b → a ≡ b
+form_fixed (Some (Cell r)) w v u p q = step_fixed (λ i j s t. first_fixed (report_refusals w r) i j s.refusal t.refusal) p q
+form_fixed (Some (Drop d)) w v u p q = step_fixed (λ i j s t. first_fixed (drop_refusals w d.id d.minute) i j s.refusal t.refusal) p q
+form_fixed (Some (When k)) w v u p q = query_line_fixed p.1 q.1
+form_fixed (Some (Move k)) w v u p q = query_line_fixed p.1 q.1
+form_fixed None w v u p q = p.1 ∙ sym q.1
 
 pub answered_fixed : {w v u : List ℤ} {line a b : List ℕ} → Answered w line v a → Answered w line u b → a ≡ b
 answered_fixed {w} {v} {u} {b} p q =
     let e = same_line p.is q.is in
-    form_fixed p.form w v u p.answered (subst (λ (f : Line). FormLine f w u b) (sym e) q.answered)
+    form_fixed p.form w v u p.answered (subst (λ (f : Option Line). FormLine f w u b) (sym e) q.answered)
 
 -- ---- tables that are alike answer alike, line after line
 step_line_alike : {S R : ℕ → Type 0} {w v : List ℤ} {a b : List ℕ} → ((m n : ℕ) → S m → R n → (m ≡ n) × Alike w v) → StepLine S a → StepLine R b → (a ≡ b) × Alike w v
@@ -113,17 +111,17 @@ step_line_alike same p q =
     let e = same p.number q.number p.steps q.steps in
     (outcome_line_fixed p.number p.spelt (rw (← e.0) at q.spelt), e.1)
 
-form_alike : (f : Line) (w v w' v' : List ℤ) {a b : List ℕ} → Alike w v → FormLine f w w' a → FormLine f v v' b → (a ≡ b) × Alike w' v'
-form_alike (Cell r) w v w' v' alike p q = step_line_alike (λ i j s t. report_alike alike s t) p q
-form_alike (Drop d) w v w' v' alike p q = step_line_alike (λ i j s t. drop_alike alike s t) p q
-form_alike (When k) w v w' v' alike p q = (query_alike alike p.1 q.1, rw (p.0, q.0) alike)
-form_alike (Move k) w v w' v' alike p q = (query_alike alike p.1 q.1, rw (p.0, q.0) alike)
-form_alike Bad w v w' v' alike p q = (p.1 ∙ sym q.1, rw (p.0, q.0) alike)
+form_alike : (f : Option Line) (w v w' v' : List ℤ) {a b : List ℕ} → Alike w v → FormLine f w w' a → FormLine f v v' b → (a ≡ b) × Alike w' v'
+form_alike (Some (Cell r)) w v w' v' alike p q = step_line_alike (λ i j s t. report_alike alike s t) p q
+form_alike (Some (Drop d)) w v w' v' alike p q = step_line_alike (λ i j s t. drop_alike alike s t) p q
+form_alike (Some (When k)) w v w' v' alike p q = (query_alike alike p.1 q.1, rw (p.0, q.0) alike)
+form_alike (Some (Move k)) w v w' v' alike p q = (query_alike alike p.1 q.1, rw (p.0, q.0) alike)
+form_alike None w v w' v' alike p q = (p.1 ∙ sym q.1, rw (p.0, q.0) alike)
 
 pub answered_alike : {w v w' v' : List ℤ} {line a b : List ℕ} → Alike w v → Answered w line w' a → Answered v line v' b → (a ≡ b) × Alike w' v'
 answered_alike {w} {v} {w'} {v'} {b} alike p q =
     let e = same_line p.is q.is in
-    form_alike p.form w v w' v' alike p.answered (subst (λ (f : Line). FormLine f v v' b) (sym e) q.answered)
+    form_alike p.form w v w' v' alike p.answered (subst (λ (f : Option Line). FormLine f v v' b) (sym e) q.answered)
 
 no_snoc : (ls : List (List ℕ)) (y : List ℕ) → [] ≡ ls ++ y ∷ [] → ⊥
 no_snoc [] y e = let z : ◌≡◌ {A = ℕ} 0 1 = cc in omega arith

@@ -1,16 +1,15 @@
 -- The hits of a query that was answered stand in its list.
-use Rattle.std.specs.Prelude.{refl, List, ℤ, length, drop}
+use Rattle.std.specs.Prelude.{refl, List, ℤ, length, drop, Result, Ok, Err}
 use Rattle.std.proofs.Common.{ap, arith, length-append}
 use Rattle.track.specs.declared.queries.Query.{Query}
 use Rattle.query.specs.Queried.{Queried}
-use Rattle.query.specs.declared.answer.Answer.{Answer}
-use Rattle.query.specs.declared.answer.Answer.TheVariants.{Listed, TooMany, Refused}
 use Rattle.desk_serve.specs.Inner.Asking.{InList}
+use Rattle.query.specs.declared.answer.Found.{Found}
+use Rattle.query.specs.declared.answer.NotListed.{NotListed}
 
-pub hits_in_list : {w : List ℤ} {B : Type 0} {q : Query} {list list' : List ℤ} {r : Answer} → Queried w B q list r list' → InList r list'
-hits_in_list {list} {r = Listed f} asked =
+pub hits_in_list : {w : List ℤ} {B : Type 0} {q : Query} {list list' : List ℤ} {r : Result Found NotListed} → Queried w B q list r list' → InList r list'
+hits_in_list {list} {r = Ok f} asked =
     let l = asked.accepted refl in
     let n = length l.ids in
     omega (arith, l.hit_count, ap length l.written, length-append l.ids (drop n list))
-hits_in_list {r = TooMany n} asked = tt
-hits_in_list {r = Refused x} asked = tt
+hits_in_list {r = Err why} asked = tt

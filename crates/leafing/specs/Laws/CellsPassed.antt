@@ -1,5 +1,5 @@
--- A loop over a leafing: some cells were passed, and the leafing goes on. One law for each turn and one for the end, whatever is said of the cells passed.
-use Rattle.std.specs.Prelude.{◌≡◌, List, [], ◌∷◌, ◌++◌, ◌<◌, ℤ, pos, length}
+-- A loop over a leafing: some cells were passed, and the leafing goes on. Some law for each turn and one for the end, whatever is said of the cells passed.
+use Rattle.std.specs.Prelude.{◌≡◌, List, [], ◌∷◌, ◌++◌, ◌<◌, ℤ, pos, length, Some, None}
 use Rattle.std.proofs.Common.{sym, ap, ◌∙◌, subst, append_assoc, append-nil, arith, to_z, of_z, length-append}
 use Rattle.std.specs.Int.{w32}
 use Rattle.whole.specs.Laws.Within.{read32}
@@ -13,7 +13,6 @@ use Rattle.leafing.specs.Laws.NextLive.{steps_sound}
 use Rattle.leafing.specs.Leafed.{Leafed}
 use Rattle.leafing.specs.Laws.Leafed.{leafed_first, leafed_none, leafed_live, leafed_exists}
 use Rattle.leafing.specs.Laws.LiveCells.{live_in_range, live_few}
-use Rattle.leafing.specs.declared.search.Next.TheVariants.{One, None}
 
 -- the leafing from the opening on has given some cells, of which P holds, and goes on from `last`
 pub record CellsPassed (w : List ℤ) (last : ℤ) (P : List Cell → Type 0) : Type 0 where
@@ -36,13 +35,13 @@ module _ {w : List ℤ} (sound : Sound w) where
 
   -- ---- a turn: the next cell is the first of those that are left
   module _ {last : ℤ} {P : List Cell → Type 0} (so_far : CellsPassed w last P) where
-    pub pass_first : (c : Cell) → NextLive w last (One c) → (later : List Cell) × (so_far.left ≡ c ∷ later) × Leafed w c.id later
-    pass_first c next = leafed_first so_far.goes_on (steps_sound sound last (One c) next)
+    pub pass_first : (c : Cell) → NextLive w last (Some c) → (later : List Cell) × (so_far.left ≡ c ∷ later) × Leafed w c.id later
+    pass_first c next = leafed_first so_far.goes_on (steps_sound sound last (Some c) next)
 
     pub pass_end : NextLive w last None → so_far.left ≡ []
     pass_end next = leafed_none so_far.goes_on (steps_sound sound last None next)
 
-    pub pass_one : {Q : List Cell → Type 0} (c : Cell) → NextLive w last (One c) → Q (so_far.cells ++ (c ∷ [])) → CellsPassed w c.id Q
+    pub pass_one : {Q : List Cell → Type 0} (c : Cell) → NextLive w last (Some c) → Q (so_far.cells ++ (c ∷ [])) → CellsPassed w c.id Q
     pass_one {Q} c next h = by (pass_first c next)
       where
         by : (later : List Cell) × (so_far.left ≡ c ∷ later) × Leafed w c.id later → CellsPassed w c.id Q
@@ -51,13 +50,13 @@ module _ {w : List ℤ} (sound : Sound w) where
             record { cells = so_far.cells ++ (c ∷ []); holds = h; left = later; leafed = subst (Leafed w (pos 0)) moved so_far.leafed; goes_on = rest }
 
     -- as many as a table may hold are not passed yet
-    pub pass_few : (c : Cell) → NextLive w last (One c) → length so_far.cells < greatest_capacity
+    pub pass_few : (c : Cell) → NextLive w last (Some c) → length so_far.cells < greatest_capacity
     pass_few c next =
         let first = pass_first c next in
         omega (arith, length-append so_far.cells so_far.left, ap length first.1, live_few sound (leafed_live sound so_far.leafed))
 
   -- ---- the next cell: it is in range, so its identifier can be read back
-  module _ {last : ℤ} {c : Cell} (next : NextLive w last (One c)) where
+  module _ {last : ℤ} {c : Cell} (next : NextLive w last (Some c)) where
     pub next_cell_in : CellInRange c
     next_cell_in = live_in_range sound next.is_one
 

@@ -1,13 +1,12 @@
 -- A leafing over a sound table ends, and visits each live cell above the first identifier once, in rising order.
-use Rattle.std.specs.Prelude.{◌≡◌, refl, ◌⊎◌, Bool, true, false, List, [], ◌∷◌, map, ℕ, zero, suc, ◌+◌, ◌≤◌, ◌<◌, ℤ, pos, ◌≤ℤ◌, ◌<ℤ◌}
+use Rattle.std.specs.Prelude.{◌≡◌, refl, ◌⊎◌, List, [], ◌∷◌, map, ℕ, zero, suc, ◌<◌, ℤ, pos, ◌≤ℤ◌, ◌<ℤ◌, Option, Some, None}
 use Rattle.std.proofs.Common.{sym, ap, subst, inl, inr, ⊎_elim, not-suc-le-zero, arith}
 use mathlib.Core.List.Memᴰ
-use Rattle.std.specs.Int.Signed.{lt_z, lt_z_yes, <ℤ-≤ℤ_trans, <ℤ_irrefl, clash_ℤ}
+use Rattle.std.specs.Int.Signed.{lt_z_yes, <ℤ-≤ℤ_trans, clash_ℤ}
 use Rattle.whole.specs.Lists.{◌∈◌}
-use Rattle.whole.specs.Laws.Order.{<ℤ_trans, <ℤ→≤ℤ, ≤ℤ-or-<ℤ, ≤ℤ_antisym, lt_z_true, lt_z_false}
+use Rattle.whole.specs.Laws.Order.{<ℤ→≤ℤ, ≤ℤ-or-<ℤ, ≤ℤ_antisym}
 use Rattle.whole.specs.Rising.{Rising, rising_one, rising_more}
 use Rattle.whole.specs.Laws.Rising.{rising_tail}
-use Rattle.whole.specs.Inner.Times.{once_if}
 use Rattle.track.specs.Life.{identifier, LivesAt}
 use Rattle.track.specs.Laws.Life.{lives_decided}
 use Rattle.track.specs.declared.cell.Cell.{Cell}
@@ -18,34 +17,34 @@ use Rattle.leafing.specs.NextLive.{NextLive, Steps}
 use Rattle.leafing.specs.Laws.NextLive.{steps_sound, steps_fixed, live_same, one_not_none}
 use Rattle.leafing.specs.Leafed.{Leafed, no_more, one_more, LiveCells}
 use Rattle.leafing.specs.Inner.Search.{Extends}
+use Rattle.leafing.specs.Inner.CellsLeft.{count_above}
+use Rattle.leafing.specs.Laws.CellsLeft.{left_less}
 use Rattle.leafing.specs.Laws.Search.{none_yet, live_of, extends_none, extends_then, extends_passed, extends_first, extends_kept, extends_lower}
-use Rattle.leafing.specs.declared.search.Next.{Next}
-use Rattle.leafing.specs.declared.search.Next.TheVariants.{One, None}
 use Rattle.leafing.specs.declared.search.Sought.{Sought}
 
 -- ---- there is one list: the steps are fixed
-same_one : {c d : Cell} → One c ≡ One d → c ≡ d
+same_one : {c d : Cell} → Some c ≡ Some d → c ≡ d
 same_one {c} {d} e = ap cell e
   where
-    cell : Next → Cell
-    cell (One b) = b
+    cell : Option Cell → Cell
+    cell (Some b) = b
     cell None = c
 
 pub leafed_fixed : {w : List ℤ} {last : ℤ} {cells cells' : List Cell} → Leafed w last cells → Leafed w last cells' → cells ≡ cells'
 leafed_fixed (no_more p) (no_more q) = refl
-leafed_fixed (no_more p) (one_more {c} q rest) = absurd (one_not_none (sym (steps_fixed None (One c) p q)))
-leafed_fixed (one_more {c} p rest) (no_more q) = absurd (one_not_none (steps_fixed (One c) None p q))
+leafed_fixed (no_more p) (one_more {c} q rest) = absurd (one_not_none (sym (steps_fixed None (Some c) p q)))
+leafed_fixed (one_more {c} p rest) (no_more q) = absurd (one_not_none (steps_fixed (Some c) None p q))
 leafed_fixed {w} (one_more {c} {cells} p rest) (one_more {c = d} {cells = cells'} q rest') =
-    let e = same_one (steps_fixed (One c) (One d) p q) in
+    let e = same_one (steps_fixed (Some c) (Some d) p q) in
     let r = leafed_fixed rest (subst (λ (b : Cell). Leafed w b.id cells') (sym e) rest') in
     cc
 
 -- ---- a step takes the first cell off what is left
-pub leafed_first : {w : List ℤ} {last : ℤ} {rest : List Cell} {c : Cell} → Leafed w last rest → Steps w last (One c)
+pub leafed_first : {w : List ℤ} {last : ℤ} {rest : List Cell} {c : Cell} → Leafed w last rest → Steps w last (Some c)
     → (later : List Cell) × (rest ≡ c ∷ later) × Leafed w c.id later
-leafed_first {c} (no_more p) q = absurd (one_not_none (steps_fixed (One c) None q p))
+leafed_first {c} (no_more p) q = absurd (one_not_none (steps_fixed (Some c) None q p))
 leafed_first {w} {c} (one_more {c = d} {cells} p rest) q =
-    let e = same_one (steps_fixed (One d) (One c) p q) in
+    let e = same_one (steps_fixed (Some d) (Some c) p q) in
     (cells, ap {B = List Cell} (λ b. b ∷ cells) e, subst (λ (b : Cell). Leafed w b.id cells) e rest)
 
 pub leafed_none : {w : List ℤ} {last : ℤ} {rest : List Cell} → Leafed w last rest → Steps w last None → rest ≡ []
@@ -80,54 +79,21 @@ module _ {w : List ℤ} (sound : Sound w) where
     all = λ c live. leafed_all l c live (<ℤ-≤ℤ_trans (lt_z_yes tt) (held_in sound live.is_held).identifier.from);
   }
 
--- ---- it ends: each step leaves fewer cells above the identifier
-unfoldable count_above : ℤ → List Cell → ℕ
-count_above last [] = 0
-count_above last (c ∷ cells) = once_if (lt_z last c.id) + count_above last cells
-
-above_less : (last k x : ℤ) → last <ℤ k → once_if (lt_z k x) ≤ once_if (lt_z last x)
-above_less last k x h = by (lt_z k x) (lt_z last x) refl refl
-  where
-    by : (a b : Bool) → lt_z k x ≡ a → lt_z last x ≡ b → once_if a ≤ once_if b
-    by false b e f = omega arith
-    by true true e f = omega arith
-    by true false e f = absurd (<ℤ_irrefl (<ℤ-≤ℤ_trans (<ℤ_trans h (lt_z_true e)) (lt_z_false f)))
-
-above_new : (last k : ℤ) → last <ℤ k → once_if (lt_z k k) < once_if (lt_z last k)
-above_new last k h = by (lt_z k k) (lt_z last k) refl refl
-  where
-    by : (a b : Bool) → lt_z k k ≡ a → lt_z last k ≡ b → once_if a < once_if b
-    by true b e f = absurd (<ℤ_irrefl {a = k} (lt_z_true e))
-    by false true e f = omega arith
-    by false false e f = absurd (<ℤ_irrefl {a = last} (<ℤ-≤ℤ_trans h (lt_z_false f)))
-
-all_less : (last k : ℤ) (cells : List Cell) → last <ℤ k → count_above k cells ≤ count_above last cells
-unfolding count_above
-all_less last k [] h = omega arith
-all_less last k (c ∷ cells) h = omega (arith, above_less last k c.id h, all_less last k cells h)
-
-one_less : (last : ℤ) {c : Cell} {cells : List Cell} → c ∈ cells → last <ℤ c.id → count_above c.id cells < count_above last cells
-unfolding count_above
-one_less last {c} (Memᴰ.head {xs} e) h =
-    let new = subst (λ (d : Cell). once_if (lt_z c.id d.id) < once_if (lt_z last d.id)) e (above_new last c.id h) in
-    omega (arith, new, all_less last c.id xs h)
-one_less last {c} (Memᴰ.tail {x} m) h = omega (arith, above_less last c.id x.id h, one_less last m h)
-
--- there is a next cell, or none
-one_extends : (s : Sought) (c : Cell) (best : Next) → (r : Next) × Extends s (c ∷ []) best r
+-- ---- it ends: each step leaves fewer cells above the identifier. There is a next cell, or none
+one_extends : (s : Sought) (c : Cell) (best : Option Cell) → (r : Option Cell) × Extends s (c ∷ []) best r
 one_extends s c best = by (lives_decided s.clock c) (≤ℤ-or-<ℤ c.id s.last)
   where
-    wanted : LivesAt s.clock c → s.last <ℤ c.id → (b : Next) → best ≡ b → (r : Next) × Extends s (c ∷ []) best r
-    wanted life up None e = (One c, extends_first s c life up best e)
-    wanted life up (One b) e =
-        ⊎_elim (λ le. (One b, extends_kept s c life up b best e le)) (λ lt. (One c, extends_lower s c life up b best e (<ℤ→≤ℤ lt))) (≤ℤ-or-<ℤ b.id c.id)
+    wanted : LivesAt s.clock c → s.last <ℤ c.id → (b : Option Cell) → best ≡ b → (r : Option Cell) × Extends s (c ∷ []) best r
+    wanted life up None e = (Some c, extends_first s c life up best e)
+    wanted life up (Some b) e =
+        ⊎_elim (λ le. (Some b, extends_kept s c life up b best e le)) (λ lt. (Some c, extends_lower s c life up b best e (<ℤ→≤ℤ lt))) (≤ℤ-or-<ℤ b.id c.id)
 
-    by : Dec (LivesAt s.clock c) → (c.id ≤ℤ s.last) ⊎ (s.last <ℤ c.id) → (r : Next) × Extends s (c ∷ []) best r
+    by : Dec (LivesAt s.clock c) → (c.id ≤ℤ s.last) ⊎ (s.last <ℤ c.id) → (r : Option Cell) × Extends s (c ∷ []) best r
     by (no expired) k = (best, extends_passed s c best (λ life up. expired life))
     by (yes life) (inl low) = (best, extends_passed s c best (λ life up. clash_ℤ up low))
     by (yes life) (inr up) = wanted life up best refl
 
-all_extend : (s : Sought) (cells : List Cell) (best : Next) → (r : Next) × Extends s cells best r
+all_extend : (s : Sought) (cells : List Cell) (best : Option Cell) → (r : Option Cell) × Extends s cells best r
 all_extend s [] best = (best, extends_none)
 all_extend s (c ∷ cells) best =
     let one = one_extends s c best in
@@ -135,7 +101,7 @@ all_extend s (c ∷ cells) best =
     (rest.0, extends_then one.1 rest.1)
 
 module _ {w : List ℤ} (sound : Sound w) where
-  next_exists : (last : ℤ) → (r : Next) × NextLive w last r
+  next_exists : (last : ℤ) → (r : Option Cell) × NextLive w last r
   next_exists last =
       let s : Sought = record { clock = clock w; last = last } in
       let r = all_extend s (held w) None in
@@ -145,11 +111,11 @@ module _ {w : List ℤ} (sound : Sound w) where
   leafed_within zero last lt = absurd (not-suc-le-zero lt)
   leafed_within (suc n) last lt = by (next_exists last) (λ k. leafed_within n k)
     where
-      by : (r : Next) × NextLive w last r → ((k : ℤ) → count_above k (held w) < n → (cells : List Cell) × Leafed w k cells) → (cells : List Cell) × Leafed w last cells
+      by : (r : Option Cell) × NextLive w last r → ((k : ℤ) → count_above k (held w) < n → (cells : List Cell) × Leafed w k cells) → (cells : List Cell) × Leafed w last cells
       by (None, next) again = ([], no_more (steps_sound sound last None next))
-      by (One c, next) again =
-          let rest = again c.id (omega (arith, one_less last next.is_one.is_held next.above)) in
-          (c ∷ rest.0, one_more (steps_sound sound last (One c) next) rest.1)
+      by (Some c, next) again =
+          let rest = again c.id (omega (arith, left_less {w = w} {last = last} next)) in
+          (c ∷ rest.0, one_more (steps_sound sound last (Some c) next) rest.1)
 
   pub leafed_exists : (last : ℤ) → (cells : List Cell) × Leafed w last cells
   leafed_exists last = leafed_within (suc (count_above last (held w))) last (omega arith)

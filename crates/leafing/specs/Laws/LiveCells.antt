@@ -1,5 +1,5 @@
 -- The live cells of a table: each is in range; there is one list of them, it is no longer than a table may hold, and it depends on which cells are live alone, as does every step.
-use Rattle.std.specs.Prelude.{◌≡◌, ◌↔◌, List, [], ◌∷◌, map, ◌≤◌, ℤ, length, ◌<ℤ◌}
+use Rattle.std.specs.Prelude.{◌≡◌, ◌↔◌, List, [], ◌∷◌, map, ◌≤◌, ℤ, length, ◌<ℤ◌, Option}
 use Rattle.std.proofs.Common.{arith}
 use Rattle.std.specs.Int.Signed.{<ℤ_irrefl}
 use Rattle.whole.specs.Lists.{◌⊆◌}
@@ -17,7 +17,6 @@ use Rattle.leafing.specs.NextLive.{Steps}
 use Rattle.leafing.specs.Laws.NextLive.{steps_fixed}
 use Rattle.leafing.specs.Laws.Search.{next_as}
 use Rattle.leafing.specs.Leafed.{LiveCells}
-use Rattle.leafing.specs.declared.search.Next.{Next}
 
 -- c has the lesser identifier
 abbrev Before : Cell → Cell → Type 0
@@ -51,7 +50,7 @@ pub live_few : {w : List ℤ} → Sound w → {cells : List Cell} → LiveCells 
 live_few sound live = omega (arith, live_within sound live, capacity_low sound.capacity_in)
 
 -- ---- so does a step: two tables with the same live cells, both sound or neither, give the same
-pub steps_same : {v w : List ℤ} {last : ℤ} (r s : Next) → ((c : Cell) → Live v c ↔ Live w c) → Sound v ↔ Sound w → Steps v last r → Steps w last s → r ≡ s
+pub steps_same : {v w : List ℤ} {last : ℤ} (r s : Option Cell) → ((c : Cell) → Live v c ↔ Live w c) → Sound v ↔ Sound w → Steps v last r → Steps w last s → r ≡ s
 steps_same {v} {w} {last} r s live sound p q = steps_fixed r s as_of_w q
   where
     as_of_w : Steps w last r

@@ -1,5 +1,5 @@
 -- Laws of the next live cell: there is one answer.
-use Rattle.std.specs.Prelude.{◌≡◌, refl, ◌⊎◌, List, [], ◌∷◌, map, ℤ}
+use Rattle.std.specs.Prelude.{◌≡◌, refl, ◌⊎◌, List, [], ◌∷◌, map, ℤ, Option, Some, None}
 use Rattle.std.proofs.Common.{sym, ap, ◌∙◌, subst, inl, inr}
 use mathlib.Core.List.Memᴰ
 use Rattle.whole.specs.Lists.{◌∈◌, NoRepeat}
@@ -9,11 +9,9 @@ use Rattle.track.specs.Life.{identifier}
 use Rattle.track.specs.declared.cell.Cell.{Cell}
 use Rattle.table.specs.Sound.{Sound, Live}
 use Rattle.leafing.specs.NextLive.{IsNext, NextLive, Steps}
-use Rattle.leafing.specs.declared.search.Next.{Next}
-use Rattle.leafing.specs.declared.search.Next.TheVariants.{One, None}
 
 -- ---- a step over a sound table, and one over other words
-pub steps_sound : {w : List ℤ} → Sound w → (last : ℤ) (r : Next) → NextLive w last r → Steps w last r
+pub steps_sound : {w : List ℤ} → Sound w → (last : ℤ) (r : Option Cell) → NextLive w last r → Steps w last r
 steps_sound s last r n = record { sound = λ t. n; unsound = λ t. absurd (t s) }
 
 pub steps_unsound : {w : List ℤ} {last : ℤ} → (Sound w → ⊥) → Steps w last None
@@ -52,15 +50,15 @@ same_cell_stable c d f = all (on (λ x. x.id)) (on (λ x. x.x)) (on (λ x. x.vx)
     all : c.id ≡ d.id → c.x ≡ d.x → c.vx ≡ d.vx → c.y ≡ d.y → c.vy ≡ d.vy → c.expiry.at ≡ d.expiry.at → c ≡ d
     all e0 e1 e2 e3 e4 e5 i = record { id = e0 i; x = e1 i; vx = e2 i; y = e3 i; vy = e4 i; expiry = record { at = e5 i } }
 
-pub one_not_none : {c : Cell} → One c ≡ None → ⊥
+pub one_not_none : {c : Cell} → Some c ≡ None → ⊥
 one_not_none {c} e = subst is_one e tt
   where
-    is_one : Next → Type 0
-    is_one (One d) = Unit {0}
+    is_one : Option Cell → Type 0
+    is_one (Some d) = Unit {0}
     is_one None = ⊥
 
-pub steps_fixed : {w : List ℤ} {last : ℤ} (r s : Next) → Steps w last r → Steps w last s → r ≡ s
+pub steps_fixed : {w : List ℤ} {last : ℤ} (r s : Option Cell) → Steps w last r → Steps w last s → r ≡ s
 steps_fixed None None p q = refl
-steps_fixed None (One d) p q = absurd (one_not_none (q.unsound (λ s. p.sound s d (q.sound s).is_one (q.sound s).above)))
-steps_fixed (One c) None p q = absurd (one_not_none (p.unsound (λ s. q.sound s c (p.sound s).is_one (p.sound s).above)))
-steps_fixed (One c) (One d) p q = ap One (same_cell_stable c d (λ n. one_not_none (p.unsound (λ s. n (next_same s (p.sound s) (q.sound s))))))
+steps_fixed None (Some d) p q = absurd (one_not_none (q.unsound (λ s. p.sound s d (q.sound s).is_one (q.sound s).above)))
+steps_fixed (Some c) None p q = absurd (one_not_none (p.unsound (λ s. q.sound s c (p.sound s).is_one (p.sound s).above)))
+steps_fixed (Some c) (Some d) p q = ap Some (same_cell_stable c d (λ n. one_not_none (p.unsound (λ s. n (next_same s (p.sound s) (q.sound s))))))

@@ -1,14 +1,16 @@
 -- Laws of leafing through a table: what is given and left is fixed, and of a sound table it is the live cells. And the two ways through the code.
-use Rattle.std.specs.Prelude.{◌≡◌, List, [], ◌++◌, ℕ, zero, suc, ◌*◌, ◌≤◌, ◌<◌, ℤ, pos, nat_abs, take}
+use Rattle.std.specs.Prelude.{◌≡◌, List, [], ◌++◌, ◌*◌, ◌≤◌, ◌<◌, ℤ, take, Err}
 use Rattle.std.proofs.Math.Path.{refl}
+use Rattle.std.proofs.Math.Decide.{ℕ_discrete}
 use Rattle.std.proofs.Common.{sym, ap, ◌∙◌, subst, inl, inr, arith}
 use Rattle.std.proofs.Math.ListN.{length, drop}
 use Rattle.words.specs.Parts.{part, put}
 use Rattle.words.specs.Laws.Parts.{part-put, length_part}
 use Rattle.words.specs.Laws.InLine.{length_pieces}
-use Rattle.track.specs.Refusals.{First, Gives}
-use Rattle.track.specs.Laws.Refusals.{gives_fixed, not_zero}
+use Rattle.track.specs.Refusals.{First, number_of}
+use Rattle.track.specs.Laws.Refusals.{first_fixed, same_answer, not_zero}
 use Rattle.track.specs.declared.cell.Cell.{Cell}
+use Rattle.track.specs.declared.refusal.Refusal.TheVariants.{ShortList}
 use Rattle.table.specs.Header.{greatest_capacity}
 use Rattle.table.specs.Sound.{Sound}
 use Rattle.leafing.specs.NextLive.{opening_reasons}
@@ -22,14 +24,18 @@ use Rattle.leafing.specs.declared.through.Listed.{Listed}
 
 -- ---- one answer, and one list
 pub through_fixed : {w list : List ℤ} {r s : Listed} {list₁ list₂ : List ℤ} → LeafsThrough w list r list₁ → LeafsThrough w list s list₂ → (r ≡ s) × (list₁ ≡ list₂)
-through_fixed {w} {list} {r} {s} {list₁} {list₂} f g = (λ i. record { number = same_number i; cells = same_count i }, by f.number_is.number f.number_is.is)
+through_fixed {w} {list} {r} {s} {list₁} {list₂} f g = (λ i. record { outcome = same_outcome i; cells = same_count i }, by (ℕ_discrete (number_of r.outcome) 0))
   where
     same : f.cells ≡ g.cells
     same = leafed_fixed f.leafed g.leafed
 
-    same_number : r.number ≡ s.number
+    same_number : number_of r.outcome ≡ number_of s.outcome
     same_number =
-        gives_fixed (through_reasons w g.cells list) r.number s.number (subst (λ (cells : List Cell). Gives (through_reasons w cells list) r.number) same f.number_is) g.number_is
+        first_fixed (through_reasons w g.cells list) (number_of r.outcome) (number_of s.outcome)
+        (subst (λ (cells : List Cell). First (through_reasons w cells list) (number_of r.outcome)) same f.refusal) g.refusal
+
+    same_outcome : r.outcome ≡ s.outcome
+    same_outcome = same_answer r.outcome s.outcome same_number (λ _ _ _ _. refl)
 
     same_count : r.cells ≡ s.cells
     same_count = f.count ∙ ap length same ∙ sym g.count
@@ -37,12 +43,9 @@ through_fixed {w} {list} {r} {s} {list₁} {list₂} f g = (λ i. record { numbe
     listed : List Cell → List ℤ
     listed cells = numbers_of cells ++ drop (record_numbers * length cells) list
 
-    by : (n : ℕ) → r.number ≡ pos n → list₁ ≡ list₂
-    by zero e = f.listed e ∙ ap listed same ∙ sym (g.listed (sym same_number ∙ e))
-    by (suc n) e = f.unchanged (λ z. refused z) ∙ sym (g.unchanged (λ z. refused (same_number ∙ z)))
-      where
-        refused : r.number ≡ pos 0 → ⊥
-        refused z = not_zero n (ap nat_abs (sym e ∙ z))
+    by : Dec (number_of r.outcome ≡ 0) → list₁ ≡ list₂
+    by (yes e) = f.listed e ∙ ap listed same ∙ sym (g.listed (sym same_number ∙ e))
+    by (no n) = f.unchanged n ∙ sym (g.unchanged (λ e. n (same_number ∙ e)))
 
 -- ---- of a sound table: all live cells, by rising identifier, and no other
 pub through_live : {w list : List ℤ} {r : Listed} {list' : List ℤ} → Sound w → (t : LeafsThrough w list r list') → LiveCells w t.cells
@@ -58,13 +61,13 @@ module _ {w all : List ℤ} {found : Listed} {all' : List ℤ} (g : ListsAll w a
   none_unsound : (Sound w → ⊥) → g.cells ≡ []
   none_unsound n = leafed_none g.leafed (steps_unsound n)
 
-  pub through_short : {list : List ℤ} → length list < record_numbers * found.cells → {number : ℤ} → number ≡ pos 10 → LeafsThrough w list (record { number = number; cells = found.cells }) list
-  through_short {list} short {number} e = record {
+  pub through_short : {list : List ℤ} → length list < record_numbers * found.cells → LeafsThrough w list (record { outcome = Err ShortList; cells = found.cells }) list
+  through_short {list} short = record {
     cells = g.cells;
     leafed = g.leafed;
-    number_is = record { number = 10; is = e; first = inr (λ n. some (ap length (none_unsound n)), inl (omega (arith, g.count), refl)) };
+    refusal = inr (λ n. some (ap length (none_unsound n)), inl (omega (arith, g.count), refl));
     count = g.count;
-    listed = λ z. not_zero 9 (ap nat_abs (sym e ∙ z));
+    listed = not_zero 9;
     unchanged = λ z. refl;
   }
     where
@@ -89,19 +92,19 @@ module _ {w all : List ℤ} {found : Listed} {all' : List ℤ} (g : ListsAll w a
     through_listed {list} fits {list'} e = record {
       cells = g.cells;
       leafed = g.leafed;
-      number_is = record { number = g.number_is.number; is = g.number_is.is; first = first g.number_is.first };
+      refusal = first g.opening;
       count = g.count;
       listed = λ z. stands;
-      unchanged = λ z. unlisted z g.number_is.first;
+      unchanged = λ z. unlisted z g.opening;
     }
       where
         stands : list' ≡ numbers_of g.cells ++ drop (record_numbers * length g.cells) list
         stands = e ∙ rw (long, first_are, g.count) refl
 
-        first : First (opening_reasons w) g.number_is.number → First (through_reasons w g.cells list) g.number_is.number
+        first : First (opening_reasons w) (number_of found.outcome) → First (through_reasons w g.cells list) (number_of found.outcome)
         first (inl h) = inl h
         first (inr h) = inr (h.0, inr (λ more. omega (arith, g.count), h.1))
 
-        unlisted : (found.number ≡ pos 0 → ⊥) → First (opening_reasons w) g.number_is.number → list' ≡ list
+        unlisted : (number_of found.outcome ≡ 0 → ⊥) → First (opening_reasons w) (number_of found.outcome) → list' ≡ list
         unlisted z (inl h) = stands ∙ ap (λ (cells : List Cell). numbers_of cells ++ drop (record_numbers * length cells) list) (none_unsound h.0) ∙ no_numbers list
-        unlisted z (inr h) = absurd (z (g.number_is.is ∙ ap pos h.1))
+        unlisted z (inr h) = absurd (z h.1)

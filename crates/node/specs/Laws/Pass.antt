@@ -1,10 +1,12 @@
 -- One pass over a node's entries: its steps, and that the hull of the entries and their greatest expiry are what passes gather.
 use Rattle.std.specs.Prelude.{◌≡◌, refl, Bool, true, false, cond, List, [], ◌∷◌, map, ℕ, ◌+◌, ◌%◌, ◌≤◌, ◌<◌, eqb, ℤ, pos, ◌+ℤ◌, ◌-ℤ◌, ◌*ℤ◌, get_or}
-use Rattle.std.proofs.Common.{sym, ap, arith, lt-ltb, le-ltb, eq-eqb, ne_eqb}
+use Rattle.std.proofs.Common.{sym, ap, ◌∙◌, arith, lt-ltb, le-ltb, eq-eqb, ne_eqb}
 use Rattle.std.proofs.lemmas.Simd.{map-map}
-use Rattle.std.specs.Int.Signed.{lt_z}
+use Rattle.std.specs.Int.{int_max}
+use Rattle.std.specs.Int.Signed.{lt_z, <ℤ_irrefl}
 use Rattle.std.proofs.Math.ListN.{drop}
 use Rattle.whole.specs.Laws.Difference.{each, difs}
+use Rattle.whole.specs.Laws.Order.{<ℤ_trans, ≤ℤ_antisym, lt_z_true, lt_z_false}
 use Rattle.whole.specs.Within.{Within}
 use Rattle.words.specs.Layout.{entry_at}
 use Rattle.track.specs.Meets.{Row}
@@ -79,6 +81,21 @@ module _ (column : ℕ) (a b : ℤ) where
   pub outer_high : (column % 2 ≡ 0 → ⊥) → cond (lt_z a b) b a ≡ outer column a b
   unfolding outer greater
   outer_high ne = rw (ne_eqb (column % 2) 0 ne)
+
+-- the machine's `max` of two numbers is the greater one; its `min` is the lesser one as it stands
+pub max_is_greater : (a b : ℤ) → int_max a b ≡ greater a b
+unfolding greater
+max_is_greater a b = by (lt_z a b) (lt_z b a) refl refl
+  where
+    by : (up down : Bool) → lt_z a b ≡ up → lt_z b a ≡ down → cond down a b ≡ cond up b a
+    by true true e f = absurd (<ℤ_irrefl {a = a} (<ℤ_trans {b = b} (lt_z_true e) (lt_z_true f)))
+    by true false e f = refl
+    by false true e f = refl
+    by false false e f = ≤ℤ_antisym b a (lt_z_false e) (lt_z_false f)
+
+pub max_is_outer : (column : ℕ) (a b : ℤ) → (column % 2 ≡ 0 → ⊥) → int_max a b ≡ outer column a b
+unfolding greater
+max_is_outer column a b ne = max_is_greater a b ∙ outer_high column a b ne
 
 -- the outer one of two numbers is one of them
 pub outer_in : {bound : ℕ} {a b : ℤ} (column : ℕ) → Within bound a → Within bound b → Within bound (outer column a b)

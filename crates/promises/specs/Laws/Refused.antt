@@ -1,14 +1,13 @@
 -- The number of any call on any words, and what a refused call and a call that only reads leave.
-use Rattle.std.specs.Prelude.{◌≡◌, refl, ◌⊎◌, List, ℕ, ℤ}
+use Rattle.std.specs.Prelude.{◌≡◌, refl, ◌⊎◌, List, ℕ, ℤ, Result}
 use Rattle.std.proofs.Common.{sym, ap, ap₂, ◌∙◌, inl, inr}
-use Rattle.track.specs.Refusals.{First}
+use Rattle.track.specs.Refusals.{First, number_of}
 use Rattle.track.specs.declared.queries.Query.{Query}
 use Rattle.query.specs.Queried.{answer_number, answer_hits, reasons}
 use Rattle.query.specs.Laws.Queried.{refused_hits}
-use Rattle.sheet_write.specs.Written.{written_number}
 use Rattle.sheet_write.specs.Laws.Written.{refused_total}
-use Rattle.sheet_write.specs.declared.Written.{Written}
 use Rattle.promises.specs.Happens.{Call, Fresh, Report, Drop, Window, Moving, Open, Leaf, Write, Chart, Read, Reply, Number, Listed, Bytes, told, hits_told, WasAsked, WasWritten, Happens, reasons_of, refused_by, ChangesNothing, IsQuery, window, moving, GoesBack, OnlyReads, query, opening, step, writing, charting}
+use Rattle.track.specs.declared.refusal.Refusal.{Refusal}
 
 -- ---- the number is the first of the call's reasons that holds
 pub call_number : (w : List ℤ) (c : Call) (a : Reply) (v : List ℤ) → Happens w c a v → First (reasons_of w c) (told a)
@@ -56,15 +55,15 @@ module _ {w : List ℤ} (c : Call) (a : Reply) {v : List ℤ} (refused : told a 
       }
 
   -- a sheet or tracks written
-  wrote : {bytes : List ℕ} {Writes : Written → List ℕ → Type 0} → ((n hits : ℕ) → refused_by c n hits ≡ Bytes n 0 bytes)
-      → ((r : Written) (b : List ℕ) → Writes r b → (written_number r ≡ 0 → ⊥) → b ≡ bytes) → WasWritten w Writes a v → ChangesNothing w c a v
+  wrote : {bytes : List ℕ} {Writes : Result ℕ Refusal → List ℕ → Type 0} → ((n hits : ℕ) → refused_by c n hits ≡ Bytes n 0 bytes)
+      → ((r : Result ℕ Refusal) (b : List ℕ) → Writes r b → (number_of r ≡ 0 → ⊥) → b ≡ bytes) → WasWritten w Writes a v → ChangesNothing w c a v
   wrote {bytes} form same h =
       let is = h.reply in
-      let not : written_number h.written ≡ 0 → ⊥ = λ e. refused (ap told is ∙ e) in
+      let not : number_of h.written ≡ 0 → ⊥ = λ e. refused (ap told is ∙ e) in
       record {
         same_table = h.unchanged;
         same_lent =
-            is ∙ ap₂ (Bytes (written_number h.written)) (refused_total h.written not) (same h.written h.bytes' h.writes not)
+            is ∙ ap₂ (Bytes (number_of h.written)) (refused_total h.written not) (same h.written h.bytes' h.writes not)
             ∙ ap (λ n. Bytes n 0 bytes) (sym (ap told is)) ∙ sym (form (told a) (hits_told a));
         no_hits = λ ten. ap hits_told is;
       }

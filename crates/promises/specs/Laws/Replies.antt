@@ -1,9 +1,9 @@
 -- What replies tell: the list of an accepted query, the hits where there are too many, sheets there and back; and replies in the numbers that a caller has.
-use Rattle.std.specs.Prelude.{◌≡◌, refl, ◌↔◌, List, [], ◌++◌, ℕ, ◌≤◌, ℤ, pos, nat_abs, length, take, drop}
+use Rattle.std.specs.Prelude.{◌≡◌, refl, ◌↔◌, List, [], ◌++◌, ℕ, ◌≤◌, ℤ, pos, nat_abs, length, take, drop, Result, Ok, Err, IfOk}
 use Rattle.std.proofs.Common.{sym, ap, ap₂, ◌∙◌, arith}
 use Rattle.words.specs.Words.{nat_of}
 use Rattle.track.specs.Life.{no_cell}
-use Rattle.track.specs.Laws.Refusals.{not_zero}
+use Rattle.track.specs.Laws.Refusals.{not_zero, refused_not_zero}
 use Rattle.track.specs.declared.cell.Cell.{Cell}
 use Rattle.track.specs.declared.refusal.Refusal.TheVariants.{NoTrack}
 use Rattle.track.specs.declared.queries.Query.{Query}
@@ -15,18 +15,17 @@ use Rattle.query.specs.Opened.{opened_nodes}
 use Rattle.query.specs.Hits.{Hits}
 use Rattle.sheet.specs.Bytes.{AreBytes}
 use Rattle.sheet.specs.Sheet.{total_for, cell_numbers}
-use Rattle.sheet_write.specs.Written.{written_number, written_total}
-use Rattle.sheet_write.specs.declared.Written.{Written}
-use Rattle.wkt.specs.TrackRead.{ReadsAs, track_number, track_cell}
+use Rattle.sheet_write.specs.Written.{written_total}
+use Rattle.wkt.specs.TrackRead.{ReadsAs}
 use Rattle.wkt.specs.Laws.TrackRead.{read_track_fixed, read_accepted, none_read}
-use Rattle.wkt.specs.declared.reading.TrackRead.{TrackRead}
-use Rattle.wkt.specs.declared.reading.TrackRead.TheVariants.{Read, Refused}
 use Rattle.charting.specs.Charted.{Charts}
 use Rattle.sheet_read.specs.Laws.ThereAndBack.{sheet_back_again, table_back_again}
 use Rattle.calls.specs.TableCalls.{QueryGives}
 use Rattle.calls.specs.SheetCalls.{WrittenInNumbers}
-use Rattle.calls.specs.TrackCalls.{ReadTrackGives}
+use Rattle.calls.specs.TrackCalls.{track_cell, ReadTrackGives}
 use Rattle.promises.specs.Happens.{Call, Write, Chart, Read, Reply, Number, Listed, Given, Bytes, told, WasAsked, WasWritten, Happens, IsQuery, window, moving}
+use Rattle.track.specs.declared.refusal.Refusal.{Refusal}
+use Rattle.track.specs.Refusals.{number_of}
 
 -- ---- queries
 module _ {w : List ℤ} {B : Type 0} {q : Query} {list : List ℤ} {a : Reply} {v : List ℤ} (h : WasAsked w B q list a v) where
@@ -89,9 +88,9 @@ asked_in_numbers {list'} g =
     let n = g.in_numbers in
     (answer_number a, answer_hits a, n.number_is, n.hits_is, record { answer = a; list' = list'; reply = refl; queried = g.queried; unchanged = refl })
 
-pub wrote_in_numbers : {w : List ℤ} {Writes : Written → List ℕ → Type 0} (a : Written) (bytes' : List ℕ) {r total : ℤ} → Writes a bytes' → WrittenInNumbers a r total
+pub wrote_in_numbers : {w : List ℤ} {Writes : Result ℕ Refusal → List ℕ → Type 0} (a : Result ℕ Refusal) (bytes' : List ℕ) {r total : ℤ} → Writes a bytes' → WrittenInNumbers a r total
     → (n : ℕ) × (t : ℕ) × (r ≡ pos n) × (total ≡ pos t) × WasWritten w Writes (Bytes n t bytes') w
-wrote_in_numbers a bytes' p n = (written_number a, written_total a, n.number_is, n.total_is, record { written = a; bytes' = bytes'; reply = refl; writes = p; unchanged = refl })
+wrote_in_numbers a bytes' p n = (number_of a, written_total a, n.number_is, n.total_is, record { written = a; bytes' = bytes'; reply = refl; writes = p; unchanged = refl })
 
 -- ---- tracks
 pub fourteen_not_zero : pos 14 ≡ pos 0 → ⊥
@@ -107,18 +106,22 @@ module _ {id r : ℤ} {line : List ℕ} {numbers : List ℤ} (g : ReadTrackGives
   -- a cell is read: 0 and its numbers
   pub track_given : {c : Cell} → ReadsAs id line c → (r ≡ pos 0) × (numbers ≡ cell_numbers c)
   track_given {c} a =
-      let same = read_track_fixed g.read (Read c) g.reads (read_accepted a) in
-      (g.number_is ∙ ap (λ (t : TrackRead). pos (track_number t)) same, g.record_is ∙ ap (λ (t : TrackRead). cell_numbers (track_cell t)) same)
+      let same = read_track_fixed g.read (Ok c) g.reads (read_accepted a) in
+      (g.number_is ∙ ap (λ (t : Result Cell Refusal). pos (number_of t)) same, g.record_is ∙ ap (λ (t : Result Cell Refusal). cell_numbers (track_cell t)) same)
 
   -- none is: 14 and zeros
   pub track_refused : ((c : Cell) → ReadsAs id line c → ⊥) → (r ≡ pos 14) × (numbers ≡ cell_numbers no_cell)
   track_refused none =
-      let same = read_track_fixed g.read (Refused NoTrack) g.reads (none_read none) in
-      (g.number_is ∙ ap (λ (t : TrackRead). pos (track_number t)) same, g.record_is ∙ ap (λ (t : TrackRead). cell_numbers (track_cell t)) same)
+      let same = read_track_fixed g.read (Err NoTrack) g.reads (none_read none) in
+      (g.number_is ∙ ap (λ (t : Result Cell Refusal). pos (number_of t)) same, g.record_is ∙ ap (λ (t : Result Cell Refusal). cell_numbers (track_cell t)) same)
 
   -- 0 is given for a cell only
   pub track_accepted : r ≡ pos 0 → (c : Cell) × ReadsAs id line c × (numbers ≡ cell_numbers c)
-  track_accepted e = (track_cell g.read, g.reads.cell (ap nat_abs (sym g.number_is ∙ e)), g.record_is)
+  track_accepted e = by g.read g.reads.cell (ap nat_abs (sym g.number_is ∙ e)) g.record_is
+    where
+      by : (t : Result Cell Refusal) → IfOk t (λ c. ReadsAs id line c) → number_of t ≡ 0 → numbers ≡ cell_numbers (track_cell t) → (c : Cell) × ReadsAs id line c × (numbers ≡ cell_numbers c)
+      by (Ok c) reads e is = (c, reads, is)
+      by (Err why) reads e is = absurd (refused_not_zero why e)
 
 -- the count of opened nodes, which is no part of a reply
 pub opened_is : {w : List ℤ} {B : Type 0} {q : Query} {list : List ℤ} {r hits opened : ℤ} {list' : List ℤ} → QueryGives w B q list r hits opened list'

@@ -1,6 +1,6 @@
 -- Two tables of one capacity and length that have the same clock and live cells give the same replies to every run of calls, and have the same clock and
 -- live cells after it.
-use Rattle.std.specs.Prelude.{◌≡◌, refl, ◌↔◌, List, ◌∷◌, ◌++◌, ℕ, ◌<◌, ℤ, length, drop}
+use Rattle.std.specs.Prelude.{◌≡◌, refl, ◌↔◌, List, ◌∷◌, ◌++◌, ℕ, ◌<◌, ℤ, length, drop, Result}
 use Rattle.std.proofs.Common.{sym, ap, ap₂, ◌∙◌, subst, arith}
 use mathlib.Core.Logic.Iff
 use Rattle.std.proofs.Math.Decide.{ℕ_discrete}
@@ -14,20 +14,22 @@ use Rattle.table.specs.Header.{capacity_word, words_for}
 use Rattle.table.specs.Fresh.{fresh_reasons}
 use Rattle.query.specs.Queried.{answer_number, answer_hits, Queried}
 use Rattle.query.specs.Laws.Queried.{refused_hits}
-use Rattle.query.specs.declared.answer.Answer.{Answer}
 use Rattle.leafing.specs.NextLive.{opening_reasons}
 use Rattle.leafing.specs.Laws.NextLive.{steps_sound, steps_fixed}
-use Rattle.sheet_write.specs.Written.{written_number, written_total}
+use Rattle.sheet_write.specs.Written.{written_total}
 use Rattle.sheet_write.specs.Laws.Written.{written_same}
-use Rattle.sheet_write.specs.declared.Written.{Written}
 use Rattle.charting.specs.Laws.Charted.{charted_same}
 use Rattle.sheet_read.specs.Reads.{read_reasons, IsRead}
-use Rattle.tree.specs.Steps.{outcome_number, ReportSteps}
+use Rattle.tree.specs.Steps.{ReportSteps}
 use Rattle.alike.specs.Alike.{Alike}
 use Rattle.alike.proofs.Laws.Alike.{still_alike, query_number, same_found, report_alike, drop_alike, fresh_alike, reports_change_places}
 use Rattle.promises.specs.Happens.{Call, Fresh, Report, Drop, Window, Moving, Open, Leaf, Write, Chart, Read, Reply, Number, Listed, Given, Bytes, told, WasMade, WasReported, WasAsked, WasOpened, WasStepped, WasWritten, WasRead, Happens, Run, no_call, one_call}
 use Rattle.promises.specs.Model.{Model, Together}
 use Rattle.promises.specs.Laws.Together.{read_together, call_size}
+use Rattle.track.specs.declared.refusal.Refusal.{Refusal}
+use Rattle.query.specs.declared.answer.Found.{Found}
+use Rattle.query.specs.declared.answer.NotListed.{NotListed}
+use Rattle.track.specs.Refusals.{number_of}
 
 -- two tables that go together with one model, of one capacity, are alike
 pub model_alike : {m : Model} {w v : List ℤ} → capacity_word w ≡ capacity_word v → Together m w → Together m v → Alike w v
@@ -41,7 +43,7 @@ model_alike cells s t = record {
 
 -- ---- a query
 module _ {w v : List ℤ} (a : Alike w v) (B : Type 0) (q : Query) (list : List ℤ) where
-  module _ {r s : Answer} {list' list'' : List ℤ} (p : Queried w B q list r list') (p' : Queried v B q list s list'') where
+  module _ {r s : Result Found NotListed} {list' list'' : List ℤ} (p : Queried w B q list r list') (p' : Queried v B q list s list'') where
     number_same : answer_number r ≡ answer_number s
     number_same = query_number a B q (length list) (answer_number r) (answer_number s) p.refusal p'.refusal
 
@@ -88,11 +90,11 @@ leafed_alike {last} a p q =
     (p.reply ∙ ap Given (steps_fixed p.next q.next there q.steps) ∙ sym q.reply, still_alike a p.unchanged q.unchanged)
 
 -- ---- a sheet and tracks depend on the clock and the live cells alone
-wrote_alike : {w v : List ℤ} {X Y : Written → List ℕ → Type 0} {x y : Reply} {w' v' : List ℤ} → Alike w v → ((r s : Written) (b c : List ℕ) → X r b → Y s c → (r ≡ s) × (b ≡ c))
+wrote_alike : {w v : List ℤ} {X Y : Result ℕ Refusal → List ℕ → Type 0} {x y : Reply} {w' v' : List ℤ} → Alike w v → ((r s : Result ℕ Refusal) (b c : List ℕ) → X r b → Y s c → (r ≡ s) × (b ≡ c))
     → WasWritten w X x w' → WasWritten v Y y v' → (x ≡ y) × Alike w' v'
 wrote_alike a writes_same p q =
     let same = writes_same p.written q.written p.bytes' q.bytes' p.writes q.writes in (
-      p.reply ∙ ap₂ (λ r b. Bytes (written_number r) (written_total r) b) same.0 same.1 ∙ sym q.reply,
+      p.reply ∙ ap₂ (λ r b. Bytes (number_of r) (written_total r) b) same.0 same.1 ∙ sym q.reply,
       still_alike a p.unchanged q.unchanged,
     )
 
@@ -134,10 +136,10 @@ module _ {w v : List ℤ} (a : Alike w v) (long : length w ≡ length v) (cells 
     alike_by a same (λ e f. both (p.reads.accepted e) (q.reads.accepted f)) p.reads.refused q.reads.refused,
   )
     where
-      same : outcome_number p.outcome ≡ outcome_number q.outcome
+      same : number_of p.outcome ≡ number_of q.outcome
       same =
-          first_fixed (read_reasons cells v bytes) (outcome_number p.outcome) (outcome_number q.outcome)
-          (first_as (read_reasons cells w bytes) (read_reasons cells v bytes) (outcome_number p.outcome)
+          first_fixed (read_reasons cells v bytes) (number_of p.outcome) (number_of q.outcome)
+          (first_as (read_reasons cells w bytes) (read_reasons cells v bytes) (number_of p.outcome)
           (refl, Iff.rfl, (refl, short_alike, (refl, Iff.rfl, (refl, Iff.rfl, (refl, Iff.rfl, tt)))))
           p.reads.refusal)
           q.reads.refusal

@@ -11,11 +11,12 @@ use Rattle.track.specs.Laws.Refusals.{not_zero}
 use Rattle.track.specs.declared.cell.Cell.{Cell}
 use Rattle.table.specs.Header.{capacity_word, clock}
 use Rattle.table.specs.Fresh.{IsFresh}
-use Rattle.tree.specs.Steps.{outcome_number, Stays, Step}
+use Rattle.tree.specs.Steps.{Stays, Step}
 use Rattle.tree.specs.Laws.Steps.{report_late, drop_late}
 use Rattle.sheet_read.specs.Reads.{IsRead}
 use Rattle.promises.specs.Happens.{Call, Fresh, Report, Drop, Window, Moving, Open, Leaf, Write, Chart, Read, Reply, told, Happens, Run, no_call, one_call}
 use Rattle.promises.specs.Model.{Model, Together, fresh, of_sheet, differs, others, accepted, after, Start, made, read, accepted_capacity, capacity_after, Sized}
+use Rattle.track.specs.Refusals.{number_of}
 
 -- ---- cells with other identifiers
 module _ {P : Type 0} where
@@ -98,7 +99,7 @@ call_together (Report r) a t h =
     rw h.reply (by_number (Report r) h.number t (λ e. report_together t (report_late h.steps e) (h.steps.accepted e)) h.steps.refused)
 call_together (Drop id minute) a t h =
     rw h.reply (by_number (Drop id minute) h.number t (λ e. drop_together t (drop_late h.steps e) (h.steps.accepted e)) h.steps.refused)
-call_together (Read cells bytes) a t h = rw h.reply (by_number (Read cells bytes) (outcome_number h.outcome) t (λ e. read_together (h.reads.accepted e)) h.reads.refused)
+call_together (Read cells bytes) a t h = rw h.reply (by_number (Read cells bytes) (number_of h.outcome) t (λ e. read_together (h.reads.accepted e)) h.reads.refused)
 call_together (Window q list) a t h = by_number (Window q list) (told a) t (λ e. rw h.unchanged t) (λ n. h.unchanged)
 call_together (Moving q list) a t h = by_number (Moving q list) (told a) t (λ e. rw h.unchanged t) (λ n. h.unchanged)
 call_together Open a t h = by_number Open (told a) t (λ e. rw h.unchanged t) (λ n. h.unchanged)
@@ -124,7 +125,7 @@ call_size (Report r) a h = rw h.reply (size_by (Report r) h.number (λ e. step_s
 call_size (Drop id minute) a h = rw h.reply (size_by (Drop id minute) h.number (λ e. step_size (h.steps.accepted e)) h.steps.refused)
 call_size (Read cells bytes) a h =
     rw h.reply
-    (size_by (Read cells bytes) (outcome_number h.outcome) (λ e. let r = h.reads.accepted e in record { as_long = r.as_long; capacity_is = r.capacity_is }) h.reads.refused)
+    (size_by (Read cells bytes) (number_of h.outcome) (λ e. let r = h.reads.accepted e in record { as_long = r.as_long; capacity_is = r.capacity_is }) h.reads.refused)
 call_size (Window q list) a h = size_by (Window q list) (told a) (λ e. same_size h.unchanged) (λ n. h.unchanged)
 call_size (Moving q list) a h = size_by (Moving q list) (told a) (λ e. same_size h.unchanged) (λ n. h.unchanged)
 call_size Open a h = size_by Open (told a) (λ e. same_size h.unchanged) (λ n. h.unchanged)

@@ -1,5 +1,5 @@
 -- The counts of any answer fit a word: no more hits than the capacity, no more nodes than the table has.
-use Rattle.std.specs.Prelude.{◌≡◌, refl, List, map, ℕ, ◌≤◌, ℤ, length}
+use Rattle.std.specs.Prelude.{◌≡◌, refl, List, map, ℕ, ◌≤◌, ℤ, length, Result, Ok, Err}
 use Rattle.std.proofs.Common.{subst, inl, inr, arith}
 use mathlib.Core.List.Memᴰ
 use Rattle.std.proofs.Math.Decide.{dec_le}
@@ -22,8 +22,9 @@ use Rattle.query.specs.Hits.{Hits}
 use Rattle.query.specs.Laws.Finding.{opened_less}
 use Rattle.query.specs.Queried.{answer_number, reasons, Queried}
 use Rattle.query.specs.Inner.Few.{Few}
-use Rattle.query.specs.declared.answer.Answer.{Answer}
-use Rattle.query.specs.declared.answer.Answer.TheVariants.{Listed, TooMany, Refused}
+use Rattle.query.specs.declared.answer.NotListed.TheVariants.{TooMany, Refused}
+use Rattle.query.specs.declared.answer.Found.{Found}
+use Rattle.query.specs.declared.answer.NotListed.{NotListed}
 
 module _ {w : List ℤ} (s : Sound w) where
   few_held : length (held w) ≤ greatest_capacity
@@ -52,23 +53,23 @@ module _ {w : List ℤ} (s : Sound w) where
 
 module _ {w : List ℤ} {Backward : Type 0} {q : Query} {list : List ℤ} where
   -- an answer other than 1 is of a sound table
-  not_unsound : {r : Answer} {list' : List ℤ} → Queried w Backward q list r list' → (answer_number r ≡ 1 → ⊥) → (Sound w → ⊥) → ⊥
+  not_unsound : {r : Result Found NotListed} {list' : List ℤ} → Queried w Backward q list r list' → (answer_number r ≡ 1 → ⊥) → (Sound w → ⊥) → ⊥
   not_unsound {r} p other u = by p.refusal
     where
       by : First (reasons w Backward q list) (answer_number r) → ⊥
       by (inl h) = other h.1
       by (inr h) = h.0 u
 
-  pub answer_few : {r : Answer} {list' : List ℤ} → Queried w Backward q list r list' → Few r
-  answer_few {r = Listed f} p =
+  pub answer_few : {r : Result Found NotListed} {list' : List ℤ} → Queried w Backward q list r list' → Few r
+  answer_few {r = Ok f} p =
       let sound = not_unsound p (λ e. omega arith) in
       let l = p.accepted refl in
       record {
         few_hits = rw l.hit_count (≤_stable (λ many. sound (λ s. many (hits_few s l.hits))));
         few_opened = rw l.opened_count (≤_stable (λ many. sound (λ s. many (opened_few s q))));
       }
-  answer_few {r = TooMany n} p =
+  answer_few {r = Err (TooMany n)} p =
       let sound = not_unsound p (λ e. omega arith) in
       let l = p.counted refl in
       record { few_hits = rw l.hit_count (≤_stable (λ many. sound (λ s. many (hits_few s l.hits)))); few_opened = omega arith }
-  answer_few {r = Refused x} p = record { few_hits = omega arith; few_opened = omega arith }
+  answer_few {r = Err (Refused x)} p = record { few_hits = omega arith; few_opened = omega arith }

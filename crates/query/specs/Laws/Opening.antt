@@ -13,7 +13,7 @@ use Rattle.node.specs.Entry.{Entry, child_of, entry_count}
 use Rattle.table.specs.Header.{capacity, clock, entries_at}
 use Rattle.table.specs.SoundTree.{Nodes, is_leaf, TreeSound}
 use Rattle.table.specs.Inner.Scan.{key_of}
-use Rattle.table.specs.Laws.Walk.{entry_left, entry_of, walk_to_child}
+use Rattle.table.specs.Laws.Walk.{no_entry_left, entry_left, entry_of, walk_to_child}
 use Rattle.table.specs.Laws.Edges.{edges_in, until_in, leaf_edges_in, leaf_until_in}
 use Rattle.query.specs.Opened.{EntryMeets, entry_meets?, opened_by}
 use Rattle.query.specs.Inner.Finding.{found_by}
@@ -184,3 +184,45 @@ module _ {w : List ℤ} {q : Query} {h i from : ℕ} {keys : List ℕ} {f : Foun
           where
             by : OpensEntries (entries_at w) q (h - 1) (entries_at w (child_of entry)) keys (one_node f) g keys₁ → CanOpen w q h i (from + 1) keys₁ g
             by o = onward _ _ leads keys₁ g o.keys_kept o.hits (omega (arith, o.opened))
+
+-- ---- the loop over a node's entries: where those before entry k are tried, what trying those that are left leaves is what trying all leaves
+pub record OpensLeft (w : List ℤ) (q : Query) (h i from : ℕ) (keys₀ : List ℕ) (f₀ : Found) (k : ℕ) (keys : List ℕ) (f : Found) : Type 0 where
+  pub can : CanOpen w q h i k keys f
+  pub rest : (r : Found) (keys' : List ℕ) → OpensEntries (entries_at w) q h (drop k (entries_at w i)) keys f r keys' → OpensEntries (entries_at w) q h (drop from (entries_at w i)) keys₀ f₀ r keys'
+
+module _ {w : List ℤ} {q : Query} {h i from : ℕ} {keys₀ : List ℕ} {f₀ : Found} {k : ℕ} {keys : List ℕ} {f : Found} (l : OpensLeft w q h i from keys₀ f₀ k keys f) {n : List ℤ} {c : ℕ} (is : n ≡ node_at w i) (many : c ≡ entry_count n) where
+  pub left_all : c ≤ k → OpensEntries (entries_at w) q h (drop from (entries_at w i)) keys₀ f₀ f keys
+  left_all le = l.rest _ _ (opens_none (no_entry_left l.can.walk k (omega (arith, many, ap entry_count is))))
+
+  module _ (lt : k < c) where
+    low : k < entry_count (node_at w i)
+    low = omega (arith, many, ap entry_count is)
+
+    pub left_test : CanTest q (is_leaf h) (entry_at n k)
+    left_test = rw is (can_test l.can low)
+
+    pub left_miss : (EntryMeets q (is_leaf h) (entry_at n k) → ⊥) → OpensLeft w q h i from keys₀ f₀ (k + 1) keys f
+    left_miss miss =
+        let none = rw is at miss in
+        record { can = can_miss l.can low none; rest = λ r keys' o. l.rest r keys' (opens_miss (entry_left l.can.walk k low) none o) }
+
+    module _ (met : EntryMeets q (is_leaf h) (entry_at n k)) where
+      module _ (z : h ≡ 0) where
+        pub left_room : f.hits < length keys
+        left_room = hit_room l.can low z (rw is at met)
+
+        pub left_hit : {v : ℕ} → v ≡ key_of (entry_at n k) → OpensLeft w q h i from keys₀ f₀ (k + 1) (set keys f.hits v) (one_hit f)
+        left_hit {v} is_key = record {
+          can = can_hit l.can low z (rw is at met) v;
+          rest = λ r keys' o. l.rest r keys' (opens_hit (entry_left l.can.walk k low) (rw is at is_key) z (rw is at met) left_room o);
+        }
+
+      module _ (z : h ≡ 0 → ⊥) {j : ℕ} (is-child : j ≡ child_of (entry_at n k)) where
+        pub left_child_ready : CanOpen w q (h - 1) j 0 keys (one_node f)
+        left_child_ready = can_child l.can low z (rw is at met) (rw is at is-child)
+
+        pub left_child : {g : Found} {keys₁ : List ℕ} → OpensEntries (entries_at w) q (h - 1) (entries_at w j) keys (one_node f) g keys₁ → OpensLeft w q h i from keys₀ f₀ (k + 1) keys₁ g
+        left_child p = record {
+          can = can_after l.can low z (rw is at met) (rw is at is-child) p;
+          rest = λ r keys' o. l.rest r keys' (opens_child (entry_left l.can.walk k low) (rw is at is-child) z (rw is at met) p o);
+        }

@@ -1,5 +1,5 @@
 -- The hits are fixed by the table and the query; the answer and the list by the table, the arguments and the list before.
-use Rattle.std.specs.Prelude.{◌≡◌, refl, List, [], ◌∷◌, ◌++◌, ℕ, ◌<◌, ℤ, length}
+use Rattle.std.specs.Prelude.{◌≡◌, refl, List, [], ◌∷◌, ◌++◌, ℕ, ◌<◌, ℤ, length, Result, Ok, Err}
 use Rattle.std.proofs.Common.{sym, ap, ap₂, ◌∙◌, inl, inr, arith}
 use Rattle.std.proofs.Math.Decide.{ℕ_discrete}
 use Rattle.whole.specs.Laws.Rising.{<ℤ_same}
@@ -11,8 +11,8 @@ use Rattle.table.specs.Header.{clock}
 use Rattle.query.specs.Hits.{Hits, MoreHits}
 use Rattle.query.specs.Queried.{answer_number, answer_hits, answer_opened, reasons, Queried}
 use Rattle.query.specs.declared.answer.Found.{Found}
-use Rattle.query.specs.declared.answer.Answer.{Answer}
-use Rattle.query.specs.declared.answer.Answer.TheVariants.{Listed, TooMany, Refused}
+use Rattle.query.specs.declared.answer.NotListed.TheVariants.{TooMany, Refused}
+use Rattle.query.specs.declared.answer.NotListed.{NotListed}
 
 pub hits_fixed : {w : List ℤ} {q : Query} {ids jds : List ℤ} → Hits w q ids → Hits w q jds → ids ≡ jds
 hits_fixed h j = <ℤ_same h.rising j.rising (λ id m. j.all id (h.only id m)) (λ id m. h.all id (j.only id m))
@@ -27,20 +27,20 @@ found_same h o = ap₂ make h o
     make hits opened = record { hits = hits; opened = opened }
 
 -- ---- what a refusal counts
-pub refused_opened : (r : Answer) → (answer_number r ≡ 0 → ⊥) → answer_opened r ≡ 0
-refused_opened (Listed f) n = absurd (n refl)
-refused_opened (TooMany m) n = refl
-refused_opened (Refused x) n = refl
+pub refused_opened : (r : Result Found NotListed) → (answer_number r ≡ 0 → ⊥) → answer_opened r ≡ 0
+refused_opened (Ok f) n = absurd (n refl)
+refused_opened (Err (TooMany m)) n = refl
+refused_opened (Err (Refused x)) n = refl
 
-pub refused_hits : (r : Answer) → (answer_number r ≡ 0 → ⊥) → (answer_number r ≡ 10 → ⊥) → answer_hits r ≡ 0
-refused_hits (Listed f) n m = absurd (n refl)
-refused_hits (TooMany i) n m = absurd (m refl)
-refused_hits (Refused x) n m = refl
+pub refused_hits : (r : Result Found NotListed) → (answer_number r ≡ 0 → ⊥) → (answer_number r ≡ 10 → ⊥) → answer_hits r ≡ 0
+refused_hits (Ok f) n m = absurd (n refl)
+refused_hits (Err (TooMany i)) n m = absurd (m refl)
+refused_hits (Err (Refused x)) n m = refl
 
 -- ---- a query's answer
 module _ {w : List ℤ} {B : Type 0} {q : Query} {list : List ℤ} where
   -- 10 is given only where there are hits, so a refusal with zeros has not that number
-  some_hits : {r : Answer} {list' : List ℤ} → Queried w B q list r list' → answer_number r ≡ 10 → 0 < answer_hits r
+  some_hits : {r : Result Found NotListed} {list' : List ℤ} → Queried w B q list r list' → answer_number r ≡ 10 → 0 < answer_hits r
   some_hits {r} p e = omega (arith, (p.counted e).hit_count, more p.refusal e)
     where
       more : First (reasons w B q list) (answer_number r) → answer_number r ≡ 10 → 0 < length (p.counted e).ids
@@ -55,19 +55,19 @@ module _ {w : List ℤ} {B : Type 0} {q : Query} {list : List ℤ} where
           next (inr (n, inr (m, inr (o, inr h)))) = absurd (omega arith)
 
   -- two answers with one number and one pair of counts are the same, since 10 comes with its hits
-  answer_same : {r s : Answer} {list' list'' : List ℤ} → Queried w B q list r list' → Queried w B q list s list'' → answer_number r ≡ answer_number s
+  answer_same : {r s : Result Found NotListed} {list' list'' : List ℤ} → Queried w B q list r list' → Queried w B q list s list'' → answer_number r ≡ answer_number s
       → answer_hits r ≡ answer_hits s → answer_opened r ≡ answer_opened s → r ≡ s
-  answer_same {r = Listed f} {s = Listed g} p p' e h o = ap Listed (found_same h o)
-  answer_same {r = Listed f} {s = TooMany n} p p' e h o = absurd (omega arith)
-  answer_same {r = Listed f} {s = Refused x} p p' e h o = absurd (refused_not_zero x (sym e))
-  answer_same {r = TooMany m} {s = Listed g} p p' e h o = absurd (omega arith)
-  answer_same {r = TooMany m} {s = TooMany n} p p' e h o = ap TooMany h
-  answer_same {r = TooMany m} {s = Refused x} p p' e h o = absurd (omega (arith, some_hits p' (sym e)))
-  answer_same {r = Refused x} {s = Listed g} p p' e h o = absurd (refused_not_zero x e)
-  answer_same {r = Refused x} {s = TooMany n} p p' e h o = absurd (omega (arith, some_hits p e))
-  answer_same {r = Refused x} {s = Refused y} p p' e h o = ap Refused (number_fixes x y e)
+  answer_same {r = Ok f} {s = Ok g} p p' e h o = ap Ok (found_same h o)
+  answer_same {r = Ok f} {s = Err (TooMany n)} p p' e h o = absurd (omega arith)
+  answer_same {r = Ok f} {s = Err (Refused x)} p p' e h o = absurd (refused_not_zero x (sym e))
+  answer_same {r = Err (TooMany m)} {s = Ok g} p p' e h o = absurd (omega arith)
+  answer_same {r = Err (TooMany m)} {s = Err (TooMany n)} p p' e h o = ap (λ n. Err (TooMany n)) h
+  answer_same {r = Err (TooMany m)} {s = Err (Refused x)} p p' e h o = absurd (omega (arith, some_hits p' (sym e)))
+  answer_same {r = Err (Refused x)} {s = Ok g} p p' e h o = absurd (refused_not_zero x e)
+  answer_same {r = Err (Refused x)} {s = Err (TooMany n)} p p' e h o = absurd (omega (arith, some_hits p e))
+  answer_same {r = Err (Refused x)} {s = Err (Refused y)} p p' e h o = ap (λ x. Err (Refused x)) (number_fixes x y e)
 
-  module _ {r s : Answer} {list' list'' : List ℤ} (p : Queried w B q list r list') (p' : Queried w B q list s list'') where
+  module _ {r s : Result Found NotListed} {list' list'' : List ℤ} (p : Queried w B q list r list') (p' : Queried w B q list s list'') where
     number_fixed : answer_number r ≡ answer_number s
     number_fixed = first_fixed (reasons w B q list) (answer_number r) (answer_number s) p.refusal p'.refusal
 

@@ -72,7 +72,7 @@ word_behind s r n at long = rw (second at, next 1, next 2, next 3)
     next : (i : ℕ) → byte_at (s ++ r) (n + at + i) ≡ byte_at r (at + i)
     next i = rw add_assoc (second (at + i))
 
--- ---- how the code reads and writes a word
+-- ---- a word read and written byte by byte
 pub word_read : (bytes : List ℕ) (at : ℕ) {a b c d : ℕ} → a ≡ byte_at bytes at → b ≡ byte_at bytes (at + 1) → c ≡ byte_at bytes (at + 2) → d ≡ byte_at bytes (at + 3)
     → to_z w32 (a + 256 * (b + 256 * (c + 256 * d))) ≡ word_in_bytes bytes at
 unfolding word_in_bytes unsigned_at

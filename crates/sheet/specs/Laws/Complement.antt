@@ -1,4 +1,4 @@
--- How the code comes by a two's complement and back without a cast that loses bits: by what -1 less a number is.
+-- A two's complement and back without a cast that loses bits: by what -1 less a number is.
 use Rattle.std.specs.Prelude.{◌≡◌, refl, ℕ, zero, suc, ◌-◌, ◌≤◌, ◌<◌, ℤ, pos, negsuc, nat_abs, ◌-ℤ◌, ◌≤ℤ◌, ◌<ℤ◌}
 use Rattle.std.proofs.Common.{sym, ap, ◌∙◌, arith, ltb→lt, le-ltb, SFits, to_z, of_z}
 use Rattle.std.specs.Int.Signed.{mag}

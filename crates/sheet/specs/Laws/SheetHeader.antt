@@ -1,5 +1,5 @@
 -- Laws of the header's tests, and one for each way through the test of a whole sheet.
-use Rattle.std.specs.Prelude.{◌≡◌, refl, Bool, ◌&&◌, List, ℕ, ◌≤◌, length, eqb, leb, ℤ, pos, ◌≤ℤ◌}
+use Rattle.std.specs.Prelude.{◌≡◌, refl, Bool, ◌&&◌, List, ℕ, ◌≤◌, length, eqb, leb, ℤ, pos, ◌≤ℤ◌, Result, Ok, Err}
 use Rattle.std.proofs.Common.{sym, ap, ◌∙◌, inl, inr, arith, le→leb}
 use Rattle.std.specs.Int.Signed.{le_z, le_z_yes}
 use Rattle.whole.specs.Laws.Order.{le_z_tells}
@@ -7,13 +7,13 @@ use Rattle.whole.specs.Laws.Tells.{tells_as, tells_both, eqb_tells}
 use Rattle.whole.specs.Tells.{Tells}
 use Rattle.words.specs.Words.{nat_of}
 use Rattle.words.specs.Laws.Words.{nat_of-pos, nat_of_tells, pos-nat_of}
-use Rattle.track.specs.Laws.Refusals.{not_zero, refused_not_zero, number_fixes, first_fixed}
+use Rattle.track.specs.Laws.Refusals.{same_answer, not_zero, refused_not_zero, number_fixes, first_fixed}
 use Rattle.track.specs.declared.refusal.Refusal.TheVariants.{BadHeader, BadRecord}
 use Rattle.track.specs.Numbers.{IsMinute}
 use Rattle.sheet.specs.Sheet.{header_bytes, total_for, count_word, offset_word, clock_of, total_word, record_count}
-use Rattle.sheet.specs.WellFormed.{IsCountTo, HeaderSound, RecordsSound, sheet_reasons, judged_number, Judges}
-use Rattle.sheet.specs.declared.judge.Judged.{Judged}
-use Rattle.sheet.specs.declared.judge.Judged.TheVariants.{WellFormed, Refused}
+use Rattle.sheet.specs.WellFormed.{IsCountTo, HeaderSound, RecordsSound, sheet_reasons, Judges}
+use Rattle.track.specs.declared.refusal.Refusal.{Refusal}
+use Rattle.track.specs.Refusals.{number_of}
 
 -- ---- a word as a number
 count_positive : (n : ℕ) → pos 0 ≤ℤ pos n
@@ -45,21 +45,15 @@ sheet_header_tells long count offset clock total given =
 
 -- ---- the ways through the test of a sheet
 module _ {limit : ℕ} {bytes : List ℕ} where
-  pub bad_header : (HeaderSound limit bytes → ⊥) → Judges limit bytes (Refused BadHeader)
+  pub bad_header : (HeaderSound limit bytes → ⊥) → Judges limit bytes (Err BadHeader)
   bad_header n = record { refusal = inl (n, refl); sound = not_zero 10 }
 
-  pub bad_record : HeaderSound limit bytes → (RecordsSound bytes → ⊥) → Judges limit bytes (Refused BadRecord)
+  pub bad_record : HeaderSound limit bytes → (RecordsSound bytes → ⊥) → Judges limit bytes (Err BadRecord)
   bad_record h n = record { refusal = inr (λ f. f h, inl (n, refl)); sound = not_zero 11 }
 
-  pub well_formed : HeaderSound limit bytes → RecordsSound bytes → Judges limit bytes WellFormed
+  pub well_formed : HeaderSound limit bytes → RecordsSound bytes → Judges limit bytes (Ok tt)
   well_formed h r = record { refusal = inr (λ g. g h, inr (λ g. g r, refl)); sound = λ z. record { header = h; records = r } }
 
   -- what is found is fixed by the bytes
-  pub judged_fixed : (r s : Judged) → Judges limit bytes r → Judges limit bytes s → r ≡ s
-  judged_fixed r s g h = same r s (first_fixed (sheet_reasons limit bytes) (judged_number r) (judged_number s) g.refusal h.refusal)
-    where
-      same : (r s : Judged) → judged_number r ≡ judged_number s → r ≡ s
-      same WellFormed WellFormed e = refl
-      same WellFormed (Refused why) e = absurd (refused_not_zero why (sym e))
-      same (Refused why) WellFormed e = absurd (refused_not_zero why e)
-      same (Refused why) (Refused other) e = ap Refused (number_fixes why other e)
+  pub judged_fixed : (r s : Result (Unit {0}) Refusal) → Judges limit bytes r → Judges limit bytes s → r ≡ s
+  judged_fixed r s g h = same_answer r s (first_fixed (sheet_reasons limit bytes) (number_of r) (number_of s) g.refusal h.refusal) (λ _ _ _ _. refl)

@@ -15,6 +15,7 @@ can s = rw (back s.ranges.minute) s.requires
 low : (c : In-loop-k) → c.loop-k.k < record_count c.args.bytes.now
 low c = omega (arith, c.count_of-n.ensures.0)
 
+-- found alone too: with it first_cell_left_out is refused for what no cell passed means
 pub loop-k-init : goal.loop-k-init
 loop-k-init c = filling_none (can (goal.at.loop-k-init c).Start)
 

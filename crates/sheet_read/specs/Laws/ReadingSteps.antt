@@ -1,9 +1,9 @@
 -- What may be read is what is not refused, one law for each way through the reading, the live cells of what was read, and that the answer is fixed.
-use Rattle.std.specs.Prelude.{◌≡◌, refl, List, ℕ, ℤ}
+use Rattle.std.specs.Prelude.{◌≡◌, refl, List, ℕ, ℤ, Result, Ok, Err}
 use Rattle.std.proofs.Common.{sym, ap, ◌∙◌, subst, inr, arith}
 use Rattle.whole.specs.Laws.Order.{≤ℤ_stable}
-use Rattle.track.specs.Refusals.{First}
-use Rattle.track.specs.Laws.Refusals.{first_fixed, none_holds, not_zero, refused_not_zero, number_fixes}
+use Rattle.track.specs.Refusals.{First, number_of}
+use Rattle.track.specs.Laws.Refusals.{same_answer, first_fixed, none_holds, not_zero, refused_not_zero, number_fixes}
 use Rattle.sheet.specs.Laws.SheetStable.{header_stable, records_stable}
 use Rattle.sheet.specs.Sheet.{cells_of}
 use Rattle.sheet.specs.WellFormed.{RecordsSound}
@@ -11,18 +11,15 @@ use Rattle.table.specs.Fresh.{fresh_reasons, IsFresh, MakesFresh}
 use Rattle.track.specs.declared.refusal.Refusal.{Refusal}
 use Rattle.leafing.specs.Leafed.{LiveCells}
 use Rattle.sheet_read.specs.Reads.{read_reasons, IsRead, ReadsSheet}
-use Rattle.tree.specs.Steps.{outcome_number}
 use Rattle.sheet_read.specs.Inner.ReadingSteps.{CanRead}
-use Rattle.tree.specs.declared.outcome.Outcome.{Outcome}
-use Rattle.tree.specs.declared.outcome.Outcome.TheVariants.{Accepted, Refused}
 
 -- what may be read is not refused
 pub can_accept : {cells : ℤ} {w : List ℤ} {bytes : List ℕ} → CanRead cells w bytes → First (read_reasons cells w bytes) 0
 can_accept c =
     inr (λ f. f c.capacity_in, inr (λ lt. omega (arith, c.long_enough), inr (λ f. f c.well_formed.header, inr (λ lt. omega (arith, c.few), inr (λ f. f c.well_formed.records, refl)))))
 
-pub read_done : {cells : ℤ} {w : List ℤ} {bytes : List ℕ} {r : Outcome} {v : List ℤ} → CanRead cells w bytes → ReadsSheet cells w bytes r v → outcome_number r ≡ 0
-read_done {cells} {w} {bytes} {r} can p = first_fixed (read_reasons cells w bytes) (outcome_number r) 0 p.refusal (can_accept can)
+pub read_done : {cells : ℤ} {w : List ℤ} {bytes : List ℕ} {r : Result (Unit {0}) Refusal} {v : List ℤ} → CanRead cells w bytes → ReadsSheet cells w bytes r v → number_of r ≡ 0
+read_done {cells} {w} {bytes} {r} can p = first_fixed (read_reasons cells w bytes) (number_of r) 0 p.refusal (can_accept can)
 
 -- and what is not refused may be read
 pub accepted_can : {cells : ℤ} {w : List ℤ} {bytes : List ℕ} (n : ℕ) → First (read_reasons cells w bytes) n → n ≡ 0 → CanRead cells w bytes
@@ -36,18 +33,20 @@ accepted_can {cells} {w} {bytes} n tried e =
     }
 
 -- ---- the ways through the reading
-module _ {cells : ℤ} {w : List ℤ} {bytes : List ℕ} {r : Outcome} (judged : First (read_reasons cells w bytes) (outcome_number r)) where
-  pub reads_refused : {why : Refusal} → r ≡ Refused why → ReadsSheet cells w bytes r w
-  reads_refused {why} e = record { refusal = judged; accepted = λ z. absurd (refused_not_zero why (sym (ap outcome_number e) ∙ z)); refused = λ n. refl }
+module _ {cells : ℤ} {w : List ℤ} {bytes : List ℕ} {r : Result (Unit {0}) Refusal} (judged : First (read_reasons cells w bytes) (number_of r)) where
+  pub reads_refused : {why : Refusal} → r ≡ Err why → ReadsSheet cells w bytes r w
+  reads_refused {why} e = record { refusal = judged; accepted = λ z. absurd (refused_not_zero why (sym (ap number_of e) ∙ z)); refused = λ n. refl }
 
-  pub reads_accepted : {v : List ℤ} → r ≡ Accepted → IsRead cells w bytes v → ReadsSheet cells w bytes Accepted v
+  pub reads_accepted : {v : List ℤ} → r ≡ (Ok tt) → IsRead cells w bytes v → ReadsSheet cells w bytes (Ok tt) v
   reads_accepted e read =
-      record { refusal = subst (λ (s : Outcome). First (read_reasons cells w bytes) (outcome_number s)) e judged; accepted = λ z. read; refused = λ n. absurd (n refl) }
+      record { refusal = subst (λ (s : Result (Unit {0}) Refusal). First (read_reasons cells w bytes) (number_of s)) e judged; accepted = λ z. read; refused = λ n. absurd (n refl) }
 
 -- a fresh table is made of words into which a sheet may be read
+pub fresh_unrefused : {cells : ℤ} {w : List ℤ} {bytes : List ℕ} {n : ℕ} {v : List ℤ} → CanRead cells w bytes → MakesFresh cells w n v → n ≡ 0
+fresh_unrefused {cells} {w} {n} c m = first_fixed (fresh_reasons cells w) n 0 m.refusal (inr (λ f. f c.capacity_in, inr (λ lt. omega (arith, c.long_enough), refl)))
+
 pub can_make_fresh : {cells : ℤ} {w : List ℤ} {bytes : List ℕ} {n : ℕ} {v : List ℤ} → CanRead cells w bytes → MakesFresh cells w n v → IsFresh cells w v
-can_make_fresh {cells} {w} {n} c m =
-    m.accepted (first_fixed (fresh_reasons cells w) n 0 m.refusal (inr (λ f. f c.capacity_in, inr (λ lt. omega (arith, c.long_enough), refl))))
+can_make_fresh c m = m.accepted (fresh_unrefused c m)
 
 -- ---- the live cells of what was read are the sheet's
 pub read_live : {cells : ℤ} {w : List ℤ} {bytes : List ℕ} {v : List ℤ} → RecordsSound bytes → IsRead cells w bytes v → LiveCells v (cells_of bytes)
@@ -58,11 +57,8 @@ read_live {v} sound p = record {
 }
 
 -- ---- the answer is fixed
-pub outcome_fixed : (r s : Outcome) → outcome_number r ≡ outcome_number s → r ≡ s
-outcome_fixed Accepted Accepted e = refl
-outcome_fixed Accepted (Refused why) e = absurd (refused_not_zero why (sym e))
-outcome_fixed (Refused why) Accepted e = absurd (refused_not_zero why e)
-outcome_fixed (Refused why) (Refused other) e = ap Refused (number_fixes why other e)
+pub outcome_fixed : (r s : Result (Unit {0}) Refusal) → number_of r ≡ number_of s → r ≡ s
+outcome_fixed r s e = same_answer r s e (λ _ _ _ _. refl)
 
-pub read_fixed : {cells : ℤ} {w : List ℤ} {bytes : List ℕ} {r s : Outcome} {u v : List ℤ} → ReadsSheet cells w bytes r u → ReadsSheet cells w bytes s v → r ≡ s
-read_fixed {cells} {w} {bytes} {r} {s} p q = outcome_fixed r s (first_fixed (read_reasons cells w bytes) (outcome_number r) (outcome_number s) p.refusal q.refusal)
+pub read_fixed : {cells : ℤ} {w : List ℤ} {bytes : List ℕ} {r s : Result (Unit {0}) Refusal} {u v : List ℤ} → ReadsSheet cells w bytes r u → ReadsSheet cells w bytes s v → r ≡ s
+read_fixed {cells} {w} {bytes} {r} {s} p q = outcome_fixed r s (first_fixed (read_reasons cells w bytes) (number_of r) (number_of s) p.refusal q.refusal)

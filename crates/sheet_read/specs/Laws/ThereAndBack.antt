@@ -1,5 +1,5 @@
 -- There and back: a sheet that was read is written as the same bytes, and a table that was written is read back with the same clock and live cells.
-use Rattle.std.specs.Prelude.{◌≡◌, ◌↔◌, List, ◌++◌, ℕ, ◌≤◌, ℤ, length, take, drop}
+use Rattle.std.specs.Prelude.{◌≡◌, ◌↔◌, List, ◌++◌, ℕ, ◌≤◌, ℤ, length, take, drop, Result}
 use Rattle.std.proofs.Common.{sym, ap, ◌∙◌, arith}
 use Rattle.words.specs.Words.{nat_of}
 use Rattle.track.specs.Numbers.{most_cells}
@@ -11,15 +11,14 @@ use Rattle.sheet.specs.Sheet.{total_for, sheet_of, record_count, cells_of}
 use Rattle.sheet.specs.Laws.Sheet.{sheet_back, length_is, length-cells_from}
 use Rattle.sheet.specs.WellFormed.{SheetSound}
 use Rattle.leafing.specs.Laws.LiveCells.{live_same_list}
-use Rattle.sheet_write.specs.Written.{written_number, written_total, Writes, WritesSheet}
+use Rattle.sheet_write.specs.Written.{written_total, Writes, WritesSheet}
 use Rattle.sheet_write.specs.Laws.Written.{write_accepted}
-use Rattle.sheet_write.specs.declared.Written.{Written}
 use Rattle.sheet_write.specs.Laws.SheetWritten.{written_sheet}
 use Rattle.sheet_read.specs.Reads.{IsRead, ReadsSheet}
-use Rattle.tree.specs.Steps.{outcome_number}
 use Rattle.sheet_read.specs.Inner.ReadingSteps.{CanRead}
 use Rattle.sheet_read.specs.Laws.ReadingSteps.{read_done, accepted_can, read_live}
-use Rattle.tree.specs.declared.outcome.Outcome.{Outcome}
+use Rattle.track.specs.declared.refusal.Refusal.{Refusal}
+use Rattle.track.specs.Refusals.{number_of}
 
 -- ---- a well-formed sheet that was read is written as it was, in the first bytes of any buffer that is long enough
 module _ {cells : ℤ} {w : List ℤ} {bytes : List ℕ} {v : List ℤ} (small : AreBytes bytes) (sheet : SheetSound most_cells bytes) (read : IsRead cells w bytes v) where
@@ -55,12 +54,12 @@ module _ {w : List ℤ} (sound : Sound w) {buffer : List ℕ} {total : ℕ} {buf
 
 -- ---- the same of the calls
 -- an accepted sheet is written again into any buffer that is as long or longer: its own bytes, and no others
-pub sheet_back_again : {cells : ℤ} {w : List ℤ} {bytes : List ℕ} {r : Outcome} {v : List ℤ} {buffer : List ℕ} {s : Written} {buffer' : List ℕ} → AreBytes bytes
-    → ReadsSheet cells w bytes r v → outcome_number r ≡ 0 → length bytes ≤ length buffer → WritesSheet v buffer s buffer'
-    → (written_number s ≡ 0) × (written_total s ≡ length bytes) × (buffer' ≡ bytes ++ drop (length bytes) buffer)
+pub sheet_back_again : {cells : ℤ} {w : List ℤ} {bytes : List ℕ} {r : Result (Unit {0}) Refusal} {v : List ℤ} {buffer : List ℕ} {s : Result ℕ Refusal} {buffer' : List ℕ} → AreBytes bytes
+    → ReadsSheet cells w bytes r v → number_of r ≡ 0 → length bytes ≤ length buffer → WritesSheet v buffer s buffer'
+    → (number_of s ≡ 0) × (written_total s ≡ length bytes) × (buffer' ≡ bytes ++ drop (length bytes) buffer)
 sheet_back_again {cells} {w} {bytes} {r} small read accepted room p =
     let is = read.accepted accepted in
-    let can : CanRead cells w bytes = accepted_can (outcome_number r) read.refusal accepted in
+    let can : CanRead cells w bytes = accepted_can (number_of r) read.refusal accepted in
     let sheet = can.well_formed in
     let live = read_live sheet.records is in
     let many = length-cells_from bytes 0 (record_count bytes) in
@@ -69,9 +68,9 @@ sheet_back_again {cells} {w} {bytes} {r} small read accepted room p =
     (done, back.0, back.1)
 
 -- what was written of a sound table is read back into any words for a table whose sheet may be as long or longer
-pub table_back_again : {w : List ℤ} {buffer : List ℕ} {s : Written} {buffer' : List ℕ} {cells : ℤ} {t : List ℤ} {r : Outcome} {v : List ℤ} → Sound w
-    → WritesSheet w buffer s buffer' → written_number s ≡ 0 → IsCapacity cells → words_for (nat_of cells) ≤ length t → written_total s ≤ total_for (nat_of cells)
-    → ReadsSheet cells t (take (written_total s) buffer') r v → (outcome_number r ≡ 0) × (clock v ≡ clock w) × ((c : Cell) → Live v c ↔ Live w c)
+pub table_back_again : {w : List ℤ} {buffer : List ℕ} {s : Result ℕ Refusal} {buffer' : List ℕ} {cells : ℤ} {t : List ℤ} {r : Result (Unit {0}) Refusal} {v : List ℤ} → Sound w
+    → WritesSheet w buffer s buffer' → number_of s ≡ 0 → IsCapacity cells → words_for (nat_of cells) ≤ length t → written_total s ≤ total_for (nat_of cells)
+    → ReadsSheet cells t (take (written_total s) buffer') r v → (number_of r ≡ 0) × (clock v ≡ clock w) × ((c : Cell) → Live v c ↔ Live w c)
 table_back_again sound p accepted capacity long room read =
     let a = p.accepted accepted in
     let done = read_done (written_can_read sound a capacity long room) read in

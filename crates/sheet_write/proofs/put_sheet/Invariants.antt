@@ -1,9 +1,10 @@
-use Prim.Native.Nat.{◌-◌}
-use Rattle.sheet_write.specs.Laws.Passes.{PuttingOn}
+-- the range stands at the next record's place, and the cells before it are passed
+use Rattle.std.proofs.Common.{◌≡◌}
+use Rattle.sheet_write.specs.Laws.Passes.{Putting}
 use Rattle.sheet_write.proofs.put_sheet.Given as goal
 
 abbrev pub invariant-loop-k : goal.invariant-loop-k
-invariant-loop-k l = PuttingOn l.t l.initial.bytes l.n l.last l.k l.bytes
-
-abbrev pub decreases-loop-k : goal.decreases-loop-k
-decreases-loop-k l = l.n - l.k
+invariant-loop-k l =
+    let places = l.k-iterator.a in
+    let cells = l.k-iterator.b in
+    (places.end ≡ l.n) × (cells.table.now ≡ l.t) × Putting l.t l.fn.bytes l.n cells.last places.start l.bytes

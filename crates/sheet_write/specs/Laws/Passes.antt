@@ -1,5 +1,5 @@
 -- The two passes of the writing, one law for each turn of their loops: cells are passed and counted, then their records are put one after the other.
-use Rattle.std.specs.Prelude.{◌≡◌, refl, List, [], ◌∷◌, ℕ, ◌+◌, ◌≤◌, ◌<◌, ℤ, pos, length}
+use Rattle.std.specs.Prelude.{◌≡◌, refl, List, [], ◌∷◌, ℕ, ◌+◌, ◌≤◌, ◌<◌, ℤ, pos, length, Some, None}
 use Rattle.std.proofs.Common.{sym, ap, ◌∙◌, not-suc-le-zero, arith, length-append}
 use Rattle.words.specs.Parts.{put}
 use Rattle.track.specs.declared.cell.Cell.{Cell}
@@ -12,18 +12,17 @@ use Rattle.leafing.specs.Laws.Leafed.{leafed_fixed, leafed_live}
 use Rattle.leafing.specs.Laws.LiveCells.{live_few}
 use Rattle.leafing.specs.Laws.CellsPassed.{CellsPassed, pass_none, pass_end, pass_one, pass_few, pass_all}
 use Rattle.sheet_write.specs.Inner.Passes.{CellsCounted, CanPutSheet, PutsSheet}
-use Rattle.leafing.specs.declared.search.Next.TheVariants.{One, None}
 
 -- ---- the count: n cells were passed, and the leafing goes on from `last`
 abbrev pub Counting : List ℤ → ℤ → ℕ → Type 0
 Counting w last n = CellsPassed w last (λ cells. n ≡ length cells)
 
 module _ {w : List ℤ} (sound : Sound w) {last : ℤ} {n : ℕ} (so_far : Counting w last n) where
-  pub counting_next : (c : Cell) → NextLive w last (One c) → Counting w c.id (n + 1)
+  pub counting_next : (c : Cell) → NextLive w last (Some c) → Counting w c.id (n + 1)
   counting_next c next = pass_one sound so_far c next (simp length-append (omega (arith, so_far.holds)))
 
   -- as many as a table may hold are not counted yet
-  pub counting_few : (c : Cell) → NextLive w last (One c) → n < greatest_capacity
+  pub counting_few : (c : Cell) → NextLive w last (Some c) → n < greatest_capacity
   counting_few c next = omega (arith, so_far.holds, pass_few sound so_far c next)
 
   pub counting_all : NextLive w last None → CellsCounted w n
@@ -52,7 +51,7 @@ module _ {w : List ℤ} {bytes : List ℕ} {n : ℕ} (can : CanPutSheet w bytes 
     pub record_fits : k < n → record_start k + record_bytes ≤ length t
     record_fits lt = omega (arith, can.room, put_long so_far.holds.so_put)
 
-    pub putting_next : k < n → (c : Cell) → NextLive w last (One c) → {u : List ℕ} → u ≡ put t (record_start k) record_bytes (record_of c) → Putting w bytes n c.id (k + 1) u
+    pub putting_next : k < n → (c : Cell) → NextLive w last (Some c) → {u : List ℕ} → u ≡ put t (record_start k) record_bytes (record_of c) → Putting w bytes n c.id (k + 1) u
     putting_next lt c next e = pass_one can.sound so_far c next (record {
       count = simp length-append (omega (arith, so_far.holds.count));
       so_put = record_put c so_far.holds.so_put (omega (arith, can.room, so_far.holds.count)) (rw so_far.holds.count at e);
@@ -62,9 +61,13 @@ module _ {w : List ℤ} {bytes : List ℕ} {n : ℕ} (can : CanPutSheet w bytes 
     all : n ≡ length so_far.cells + length so_far.left
     all = can.counted.count ∙ ap length (leafed_fixed can.counted.leafed so_far.leafed) ∙ length-append so_far.cells so_far.left
 
-    -- a cell is left as long as not all are written
+    -- all are written where none is left
+    pub putting_ends : NextLive w last None → n ≤ k
+    putting_ends next = omega (arith, all, so_far.holds.count, ap length (pass_end can.sound so_far next))
+
+    -- so a cell is left as long as not all are written
     pub putting_goes_on : k < n → NextLive w last None → ⊥
-    putting_goes_on lt next = omega (arith, all, so_far.holds.count, ap length (pass_end can.sound so_far next))
+    putting_goes_on lt next = omega (arith, putting_ends next)
 
     pub putting_all : n ≤ k → PutsSheet w bytes n t
     putting_all le = record {

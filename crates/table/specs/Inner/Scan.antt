@@ -1,6 +1,6 @@
 -- The soundness test's pass over the tree: what passing some entries means.
 -- `es` are entries of a node that has h levels beneath it; `marks` tells for each node whether it was met; m identifiers are gathered.
-use Rattle.std.specs.Prelude.{◌≡◌, Bool, true, false, ℕ, zero, suc, ◌+◌, ◌≤◌, ◌<◌, ℤ, length, get_or, set, take}
+use Rattle.std.specs.Prelude.{◌≡◌, Bool, true, false, Option, Some, None, ℕ, zero, suc, ◌+◌, ◌≤◌, ◌<◌, ℤ, length, get_or, set, take}
 use mathlib.Core.List.{List, [], ◌++◌, map, flat_map}
 use Rattle.whole.specs.Lists.{◌∈◌}
 use Rattle.whole.specs.Inner.Times.{times}
@@ -9,8 +9,6 @@ use Rattle.words.specs.Words.{nat_of}
 use Rattle.track.specs.Life.{CellInRange}
 use Rattle.node.specs.Entry.{Entry, cell_of, child_of, entry_count_word, IsCount}
 use Rattle.table.specs.SoundTree.{Nodes, leaves_of, nodes_of, EntrySound, TreeSound}
-use Rattle.table.specs.declared.scan.Scan.{Scan}
-use Rattle.table.specs.declared.scan.Scan.TheVariants.{Passed, Bad}
 
 -- ---- what is reached through some entries
 unfoldable pub leaves_in : Nodes → ℕ → List Entry → List Entry
@@ -54,8 +52,8 @@ pub record Leaves (N : Nodes) (h : ℕ) (es : List Entry) (marks keys : List ℕ
   pub marked : (j : ℕ) → get_or marks' j 0 ≡ get_or marks j 0 + times j (nodes_in N h es)
   pub gathered : take m' keys' ≡ take m keys ++ map key_of (leaves_in N h es)
 
-pub record PassOutcome (N : Nodes) (C : ℕ → Type 0) (cells : ℕ) (clock : ℤ) (h : ℕ) (es : List Entry) (marks keys : List ℕ) (m : ℕ) (r : Scan) (marks' keys' : List ℕ) : Type 0 where
+pub record PassOutcome (N : Nodes) (C : ℕ → Type 0) (cells : ℕ) (clock : ℤ) (h : ℕ) (es : List Entry) (marks keys : List ℕ) (m : ℕ) (r : Option ℕ) (marks' keys' : List ℕ) : Type 0 where
   pub marks_kept : length marks' ≡ length marks
   pub keys_kept : length keys' ≡ length keys
-  pub pass : (m' : ℕ) → r ≡ Passed m' → Passes N C cells clock h es marks m × Leaves N h es marks keys m m' marks' keys'
-  pub fail : r ≡ Bad → Passes N C cells clock h es marks m → ⊥
+  pub pass : (m' : ℕ) → r ≡ Some m' → Passes N C cells clock h es marks m × Leaves N h es marks keys m m' marks' keys'
+  pub fail : r ≡ None → Passes N C cells clock h es marks m → ⊥

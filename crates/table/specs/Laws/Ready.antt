@@ -1,5 +1,5 @@
 -- The pass over a node of the table: what it needs stays so from entry to entry, and how its loop goes on and ends.
-use Rattle.std.specs.Prelude.{◌≡◌, refl, Bool, true, false, not, List, [], ◌∷◌, ℕ, ◌+◌, ◌-◌, ◌≤◌, ◌<◌, ℤ, length, get_or, set, drop}
+use Rattle.std.specs.Prelude.{◌≡◌, refl, Bool, true, false, not, List, [], ◌∷◌, Option, Some, None, ℕ, ◌+◌, ◌-◌, ◌≤◌, ◌<◌, ℤ, length, get_or, set, drop}
 use Rattle.std.proofs.Common.{ap, ◌∙◌, arith, length-set, drop_of_length-le, get_or-set_same, get_or-set_other}
 use Rattle.std.proofs.Math.Decide.{ℕ_discrete}
 use Rattle.whole.specs.Laws.Tells.{not_false}
@@ -12,8 +12,6 @@ use Rattle.table.specs.Laws.Header.{node_below}
 use Rattle.table.specs.Inner.Scan.{EntryTaken, Entered, NodeCounted, PassOutcome}
 use Rattle.table.specs.Laws.Scan.{way_none, way_untaken, way_taken, way_unentered, way_entered_bad, way_entered}
 use Rattle.table.specs.Inner.Ready.{Ready}
-use Rattle.table.specs.declared.scan.Scan.{Scan}
-use Rattle.table.specs.declared.scan.Scan.TheVariants.{Passed, Bad}
 
 -- ---- it is kept
 marked_low : (marks : List ℕ) (c : ℕ) → c < length marks → ((j : ℕ) → get_or marks j 0 ≤ 1) → (j : ℕ) → get_or (set marks c 1) j 0 ≤ 1
@@ -47,7 +45,7 @@ module _ {w : List ℤ} {N : Nodes} {C : ℕ → Type 0} {cells : ℕ} {clock : 
         room = y.room;
       }
 
-  pub ready_passed : {h : ℕ} {es : List Entry} {m₁ : ℕ} {node₁ : ℕ} {marks₁ keys₁ : List ℕ} → node₁ < nodes_for cells → PassOutcome N C cells clock h es marks keys m (Passed m₁) marks₁ keys₁ → Ready w cells node₁ marks₁ keys₁ m₁
+  pub ready_passed : {h : ℕ} {es : List Entry} {m₁ : ℕ} {node₁ : ℕ} {marks₁ keys₁ : List ℕ} → node₁ < nodes_for cells → PassOutcome N C cells clock h es marks keys m (Some m₁) marks₁ keys₁ → Ready w cells node₁ marks₁ keys₁ m₁
   ready_passed {m₁} n o =
       let p = o.pass m₁ refl in
       record {
@@ -74,19 +72,19 @@ pub record EntriesLeft (w : List ℤ) (cells : ℕ) (clock : ℤ) (h node : ℕ)
   pub ready : Ready w cells node marks keys m
   pub marks_kept : length marks ≡ length marks₀
   pub keys_kept : length keys ≡ length keys₀
-  pub rest : (r : Scan) (marks' keys' : List ℕ) → PassOutcome (entries_at w) (NodeCounted w) cells clock h (drop k (entries_at w node)) marks keys m r marks' keys'
+  pub rest : (r : Option ℕ) (marks' keys' : List ℕ) → PassOutcome (entries_at w) (NodeCounted w) cells clock h (drop k (entries_at w node)) marks keys m r marks' keys'
       → PassOutcome (entries_at w) (NodeCounted w) cells clock h (entries_at w node) marks₀ keys₀ m₀ r marks' keys'
 
 pub left_none : {w : List ℤ} {cells : ℕ} {clock : ℤ} {h node : ℕ} {marks keys : List ℕ} {m : ℕ} → Ready w cells node marks keys m → EntriesLeft w cells clock h node marks keys m 0 marks keys m
 left_none y = record { ready = y; marks_kept = refl; keys_kept = refl; rest = λ r marks' keys' o. o }
 
 module _ {w : List ℤ} {cells : ℕ} {clock : ℤ} {h node : ℕ} {marks₀ keys₀ : List ℕ} {m₀ k : ℕ} {marks keys : List ℕ} {m : ℕ} (l : EntriesLeft w cells clock h node marks₀ keys₀ m₀ k marks keys m) {n : List ℤ} {c : ℕ} (is : n ≡ node_at w node) (many : c ≡ entry_count n) where
-  pub left_all : c ≤ k → PassOutcome (entries_at w) (NodeCounted w) cells clock h (entries_at w node) marks₀ keys₀ m₀ (Passed m) marks keys
+  pub left_all : c ≤ k → PassOutcome (entries_at w) (NodeCounted w) cells clock h (entries_at w node) marks₀ keys₀ m₀ (Some m) marks keys
   left_all le = l.rest _ _ _ (way_none h _ marks keys m (no_entry w node k n c is many le) l.ready.low l.ready.room)
 
   module _ (lt : k < c) {r : Bool} where
     module _ (z : h ≡ 0) {keys₁ : List ℕ} (t : EntryTaken cells (entry_at n k) keys m r keys₁) where
-      pub left_untaken : not r ≡ true → PassOutcome (entries_at w) (NodeCounted w) cells clock h (entries_at w node) marks₀ keys₀ m₀ Bad marks keys₁
+      pub left_untaken : not r ≡ true → PassOutcome (entries_at w) (NodeCounted w) cells clock h (entries_at w node) marks₀ keys₀ m₀ None marks keys₁
       left_untaken f = l.rest _ _ _ (way_untaken h _ _ _ marks keys m _ _ z (next_entry w node k n c is many lt) t f)
 
       pub left_taken : not r ≡ false → EntriesLeft w cells clock h node marks₀ keys₀ m₀ (k + 1) marks keys₁ (m + 1)
@@ -98,14 +96,14 @@ module _ {w : List ℤ} {cells : ℕ} {clock : ℤ} {h node : ℕ} {marks₀ key
       }
 
     module _ (z : h ≡ 0 → ⊥) {marks₁ : List ℕ} (t : Entered (entries_at w) (NodeCounted w) cells clock (h - 1) (entry_at n k) marks r marks₁) where
-      pub left_unentered : not r ≡ true → PassOutcome (entries_at w) (NodeCounted w) cells clock h (entries_at w node) marks₀ keys₀ m₀ Bad marks₁ keys
+      pub left_unentered : not r ≡ true → PassOutcome (entries_at w) (NodeCounted w) cells clock h (entries_at w node) marks₀ keys₀ m₀ None marks₁ keys
       left_unentered f = l.rest _ _ _ (way_unentered h _ _ _ marks keys m _ _ z (next_entry w node k n c is many lt) t f)
 
-      module _ (f : not r ≡ false) {b : ℕ} (child : b ≡ child_of (entry_at n k)) {q : Scan} {marks₂ keys₂ : List ℕ} (o : PassOutcome (entries_at w) (NodeCounted w) cells clock (h - 1) (entries_at w b) marks₁ keys m q marks₂ keys₂) where
-        pub left_bad : q ≡ Bad → PassOutcome (entries_at w) (NodeCounted w) cells clock h (entries_at w node) marks₀ keys₀ m₀ Bad marks₂ keys₂
+      module _ (f : not r ≡ false) {b : ℕ} (child : b ≡ child_of (entry_at n k)) {q : Option ℕ} {marks₂ keys₂ : List ℕ} (o : PassOutcome (entries_at w) (NodeCounted w) cells clock (h - 1) (entries_at w b) marks₁ keys m q marks₂ keys₂) where
+        pub left_bad : q ≡ None → PassOutcome (entries_at w) (NodeCounted w) cells clock h (entries_at w node) marks₀ keys₀ m₀ None marks₂ keys₂
         left_bad e = l.rest _ _ _ (way_entered_bad h _ _ _ marks keys m _ _ _ _ z (next_entry w node k n c is many lt) t f (child_marked l.ready t f) (rw (child, e) at o))
 
-        pub left_passed : {m₂ : ℕ} → q ≡ Passed m₂ → EntriesLeft w cells clock h node marks₀ keys₀ m₀ (k + 1) marks₂ keys₂ m₂
+        pub left_passed : {m₂ : ℕ} → q ≡ Some m₂ → EntriesLeft w cells clock h node marks₀ keys₀ m₀ (k + 1) marks₂ keys₂ m₂
         left_passed {m₂} e = record {
           ready = ready_passed (ready_entered l.ready t f child) l.ready.node_in (rw e at o);
           marks_kept = o.marks_kept ∙ ap length (t.entered (not_false f)).3 ∙ length-set marks _ 1 ∙ l.marks_kept;

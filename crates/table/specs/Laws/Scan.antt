@@ -1,6 +1,6 @@
 -- The soundness test's pass over the tree: one law for each way through the code.
 -- `es` are entries of a node that has h levels beneath it; `marks` tells for each node whether it was met; m identifiers are gathered.
-use Rattle.std.specs.Prelude.{◌≡◌, refl, Bool, true, false, not, ℕ, zero, suc, ◌+◌, ◌-◌, ◌≤◌, ◌<◌, eqb, ℤ, length, get_or, set, take}
+use Rattle.std.specs.Prelude.{◌≡◌, refl, Bool, true, false, not, Option, Some, None, ℕ, zero, suc, ◌+◌, ◌-◌, ◌≤◌, ◌<◌, eqb, ℤ, length, get_or, set, take}
 use Rattle.std.proofs.Common.{sym, ◌∙◌, add-one, sub-one, arith, length-append, length-set, get_or-set_same, get_or-set_other, take-suc-set, eq-eqb, ne_eqb}
 use Rattle.std.proofs.Math.Path.{ap}
 use Rattle.std.proofs.Math.Logic.{⊎_elim}
@@ -13,8 +13,6 @@ use Rattle.whole.specs.Laws.Times.{times-append}
 use Rattle.track.specs.Life.{CellInRange}
 use Rattle.node.specs.Entry.{Entry, cell_of, child_of}
 use Rattle.table.specs.SoundTree.{Nodes, leaves_of, nodes_of, EntrySound, TreeSound}
-use Rattle.table.specs.declared.scan.Scan.{Scan}
-use Rattle.table.specs.declared.scan.Scan.TheVariants.{Passed, Bad}
 use Rattle.table.specs.Inner.Scan.{leaves_in, nodes_in, SoundIn, key_of, EntryTaken, Entered, Passes, Leaves, PassOutcome}
 
 pub leaves_in_lem : (N : Nodes) (h i : ℕ) → leaves_of N h i ≡ leaves_in N h (N i)
@@ -102,14 +100,14 @@ inner_leaves N h e es marks keys m lt z m₁ marks₁ keys₁ l m' marks' keys' 
 -- ---- the ways through the code
 module _ {N : Nodes} {C : ℕ → Type 0} {cells : ℕ} {clock : ℤ} where
   bad : {h : ℕ} {es : List Entry} {marks keys marks' keys' : List ℕ} {m : ℕ} → length marks' ≡ length marks → length keys' ≡ length keys
-      → (Passes N C cells clock h es marks m → ⊥) → PassOutcome N C cells clock h es marks keys m Bad marks' keys'
+      → (Passes N C cells clock h es marks m → ⊥) → PassOutcome N C cells clock h es marks keys m None marks' keys'
   bad a b f = record { marks_kept = a; keys_kept = b; pass = λ m' e. absurd (not_passed m' e); fail = λ e. f }
     where
-      not_passed : (m' : ℕ) → Bad ≡ Passed m' → ⊥
+      not_passed : (m' : ℕ) → None ≡ Some m' → ⊥
       not_passed m' e = let z : ◌≡◌ {A = ℕ} 0 1 = cc in omega arith
 
   pub way_none : (h : ℕ) (es : List Entry) (marks keys : List ℕ) (m : ℕ) → es ≡ [] → ((j : ℕ) → get_or marks j 0 ≤ 1) → m ≤ cells
-      → PassOutcome N C cells clock h es marks keys m (Passed m) marks keys
+      → PassOutcome N C cells clock h es marks keys m (Some m) marks keys
   unfolding SoundIn leaves_in nodes_in flat_map times
   way_none h es marks keys m e low few = record {
     marks_kept = refl;
@@ -125,10 +123,10 @@ module _ {N : Nodes} {C : ℕ → Type 0} {cells : ℕ} {clock : ℤ} where
     fail = λ f. absurd (not_bad f);
   }
     where
-      same_passed : {m m' : ℕ} → Passed m ≡ Passed m' → m ≡ m'
+      same_passed : {m m' : ℕ} → Some m ≡ Some m' → m ≡ m'
       same_passed f = cc
 
-      not_bad : {m : ℕ} → Passed m ≡ Bad → ⊥
+      not_bad : {m : ℕ} → Some m ≡ None → ⊥
       not_bad f = let z : ◌≡◌ {A = ℕ} 0 1 = cc in omega arith
 
       sound_none : (h : ℕ) → SoundIn N cells clock h []
@@ -174,7 +172,7 @@ module _ {N : Nodes} {C : ℕ → Type 0} {cells : ℕ} {clock : ℤ} where
       room = omega (arith, p.room);
     }
 
-  way_cell : (h : ℕ) (d : Entry) (es ds : List Entry) (marks keys : List ℕ) (m : ℕ) (r : Scan) (marks' keys' : List ℕ) → h ≡ 0 → es ≡ d ∷ ds → CellInRange (cell_of d) → m < length keys
+  way_cell : (h : ℕ) (d : Entry) (es ds : List Entry) (marks keys : List ℕ) (m : ℕ) (r : Option ℕ) (marks' keys' : List ℕ) → h ≡ 0 → es ≡ d ∷ ds → CellInRange (cell_of d) → m < length keys
       → PassOutcome N C cells clock h ds marks (set keys m (key_of d)) (m + 1) r marks' keys' → PassOutcome N C cells clock h es marks keys m r marks' keys'
   way_cell h d es ds marks keys m r marks' keys' z e c lt o = rw (z, e) (by (rw z at o))
     where
@@ -229,21 +227,21 @@ module _ {N : Nodes} {C : ℕ → Type 0} {cells : ℕ} {clock : ℤ} where
 
   -- in the code's words: the height is not 0, and the child's is one less
   way_child_bad : (h : ℕ) (d : Entry) (es ds : List Entry) (marks keys : List ℕ) (m : ℕ) (marks' keys' : List ℕ) → (h ≡ 0 → ⊥) → es ≡ d ∷ ds → child_of d < length marks → get_or marks (child_of d) 0 ≡ 0
-      → PassOutcome N C cells clock (h - 1) (N (child_of d)) (set marks (child_of d) 1) keys m Bad marks' keys' → PassOutcome N C cells clock h es marks keys m Bad marks' keys'
+      → PassOutcome N C cells clock (h - 1) (N (child_of d)) (set marks (child_of d) 1) keys m None marks' keys' → PassOutcome N C cells clock h es marks keys m None marks' keys'
   way_child_bad zero d es ds marks keys m marks' keys' z e lt new o = absurd (z refl)
   way_child_bad (suc h) d es ds marks keys m marks' keys' z e lt new o =
       let c = rw (sub-one (suc h)) at o in
       rw e (bad (c.marks_kept ∙ simp length-set) c.keys_kept (λ p. c.fail refl (inner_child h d ds marks keys m lt new p)))
 
-  way_child : (h : ℕ) (d : Entry) (es ds : List Entry) (marks keys : List ℕ) (m m₁ : ℕ) (marks₁ keys₁ : List ℕ) (r : Scan) (marks' keys' : List ℕ) → (h ≡ 0 → ⊥) → es ≡ d ∷ ds
+  way_child : (h : ℕ) (d : Entry) (es ds : List Entry) (marks keys : List ℕ) (m m₁ : ℕ) (marks₁ keys₁ : List ℕ) (r : Option ℕ) (marks' keys' : List ℕ) → (h ≡ 0 → ⊥) → es ≡ d ∷ ds
       → EntrySound N cells clock (h - 1) d → C (child_of d) → child_of d < length marks → get_or marks (child_of d) 0 ≡ 0
-      → PassOutcome N C cells clock (h - 1) (N (child_of d)) (set marks (child_of d) 1) keys m (Passed m₁) marks₁ keys₁
+      → PassOutcome N C cells clock (h - 1) (N (child_of d)) (set marks (child_of d) 1) keys m (Some m₁) marks₁ keys₁
       → PassOutcome N C cells clock h ds marks₁ keys₁ m₁ r marks' keys'
       → PassOutcome N C cells clock h es marks keys m r marks' keys'
   way_child zero d es ds marks keys m m₁ marks₁ keys₁ r marks' keys' z e s c lt new o q = absurd (z refl)
   way_child (suc h) d es ds marks keys m m₁ marks₁ keys₁ r marks' keys' z e s c lt new o q = rw e (by (rw (sub-one (suc h)) at s) (rw (sub-one (suc h)) at o))
     where
-      by : EntrySound N cells clock h d → PassOutcome N C cells clock h (N (child_of d)) (set marks (child_of d) 1) keys m (Passed m₁) marks₁ keys₁ → PassOutcome N C cells clock (suc h) (d ∷ ds) marks keys m r marks' keys'
+      by : EntrySound N cells clock h d → PassOutcome N C cells clock h (N (child_of d)) (set marks (child_of d) 1) keys m (Some m₁) marks₁ keys₁ → PassOutcome N C cells clock (suc h) (d ∷ ds) marks keys m r marks' keys'
       by s o =
           let p = o.pass m₁ refl in
           record {
@@ -257,32 +255,32 @@ module _ {N : Nodes} {C : ℕ → Type 0} {cells : ℕ} {clock : ℤ} where
 
   -- ---- in the words of the calls that test one entry
   pub way_untaken : (h : ℕ) (d : Entry) (es ds : List Entry) (marks keys : List ℕ) (m : ℕ) (r : Bool) (keys₁ : List ℕ) → h ≡ 0 → es ≡ d ∷ ds → EntryTaken cells d keys m r keys₁ → not r ≡ true
-      → PassOutcome N C cells clock h es marks keys m Bad marks keys₁
+      → PassOutcome N C cells clock h es marks keys m None marks keys₁
   way_untaken h d es ds marks keys m r keys₁ z e t f =
       let n = t.refused (not_true f) in
       rw (z, e) (bad refl (ap length n.1) (λ p. n.0 (leaf_head d ds marks keys m p) (leaf_room d ds marks keys m p)))
 
-  pub way_taken : (h : ℕ) (d : Entry) (es ds : List Entry) (marks keys : List ℕ) (m : ℕ) (r : Bool) (keys₁ : List ℕ) (q : Scan) (marks' keys' : List ℕ) → h ≡ 0 → es ≡ d ∷ ds → EntryTaken cells d keys m r keys₁ → not r ≡ false
+  pub way_taken : (h : ℕ) (d : Entry) (es ds : List Entry) (marks keys : List ℕ) (m : ℕ) (r : Bool) (keys₁ : List ℕ) (q : Option ℕ) (marks' keys' : List ℕ) → h ≡ 0 → es ≡ d ∷ ds → EntryTaken cells d keys m r keys₁ → not r ≡ false
       → cells ≤ length keys → PassOutcome N C cells clock h ds marks keys₁ (m + 1) q marks' keys' → PassOutcome N C cells clock h es marks keys m q marks' keys'
   way_taken h d es ds marks keys m r keys₁ q marks' keys' z e t f long o =
       let y = t.taken (not_false f) in
       way_cell h d es ds marks keys m q marks' keys' z e y.0 (omega (arith, y.1)) (rw y.2 at o)
 
   pub way_unentered : (h : ℕ) (d : Entry) (es ds : List Entry) (marks keys : List ℕ) (m : ℕ) (r : Bool) (marks₁ : List ℕ) → (h ≡ 0 → ⊥) → es ≡ d ∷ ds → Entered N C cells clock (h - 1) d marks r marks₁ → not r ≡ true
-      → PassOutcome N C cells clock h es marks keys m Bad marks₁ keys
+      → PassOutcome N C cells clock h es marks keys m None marks₁ keys
   way_unentered zero d es ds marks keys m r marks₁ z e t f = absurd (z refl)
   way_unentered (suc h) d es ds marks keys m r marks₁ z e t f =
       let n = t.refused (not_true f) in
       rw e (bad (ap length n.1) refl (λ p. n.0 (rw (sub-one (suc h)) (inner_head h d ds marks keys m p)) (inner_counted h d ds marks keys m p) (inner_new h d ds marks keys m p)))
 
   pub way_entered_bad : (h : ℕ) (d : Entry) (es ds : List Entry) (marks keys : List ℕ) (m : ℕ) (r : Bool) (marks₁ marks' keys' : List ℕ) → (h ≡ 0 → ⊥) → es ≡ d ∷ ds → Entered N C cells clock (h - 1) d marks r marks₁ → not r ≡ false
-      → child_of d < length marks → PassOutcome N C cells clock (h - 1) (N (child_of d)) marks₁ keys m Bad marks' keys' → PassOutcome N C cells clock h es marks keys m Bad marks' keys'
+      → child_of d < length marks → PassOutcome N C cells clock (h - 1) (N (child_of d)) marks₁ keys m None marks' keys' → PassOutcome N C cells clock h es marks keys m None marks' keys'
   way_entered_bad h d es ds marks keys m r marks₁ marks' keys' z e t f lt o =
       let y = t.entered (not_false f) in
       way_child_bad h d es ds marks keys m marks' keys' z e lt y.2 (rw y.3 at o)
 
-  pub way_entered : (h : ℕ) (d : Entry) (es ds : List Entry) (marks keys : List ℕ) (m m₁ : ℕ) (r : Bool) (marks₀ marks₁ keys₁ : List ℕ) (q : Scan) (marks' keys' : List ℕ) → (h ≡ 0 → ⊥) → es ≡ d ∷ ds → Entered N C cells clock (h - 1) d marks r marks₀ → not r ≡ false
-      → child_of d < length marks → PassOutcome N C cells clock (h - 1) (N (child_of d)) marks₀ keys m (Passed m₁) marks₁ keys₁
+  pub way_entered : (h : ℕ) (d : Entry) (es ds : List Entry) (marks keys : List ℕ) (m m₁ : ℕ) (r : Bool) (marks₀ marks₁ keys₁ : List ℕ) (q : Option ℕ) (marks' keys' : List ℕ) → (h ≡ 0 → ⊥) → es ≡ d ∷ ds → Entered N C cells clock (h - 1) d marks r marks₀ → not r ≡ false
+      → child_of d < length marks → PassOutcome N C cells clock (h - 1) (N (child_of d)) marks₀ keys m (Some m₁) marks₁ keys₁
       → PassOutcome N C cells clock h ds marks₁ keys₁ m₁ q marks' keys' → PassOutcome N C cells clock h es marks keys m q marks' keys'
   way_entered h d es ds marks keys m m₁ r marks₀ marks₁ keys₁ q marks' keys' z e t f lt o k =
       let y = t.entered (not_false f) in

@@ -1,9 +1,10 @@
 -- What the soundness test sees of one entry: its child, its stamp, the stamps beneath it; and one law for each way through the code.
-use Rattle.std.specs.Prelude.{◌≡◌, refl, List, [], ℕ, zero, suc, ◌+◌, ◌≤◌, ◌<◌, eqb, leb, ℤ, length, get_or, ◌≤ℤ◌, ◌<ℤ◌}
+use Rattle.std.specs.Prelude.{◌≡◌, refl, Bool, List, [], ℕ, zero, suc, ◌+◌, ◌≤◌, ◌<◌, eqb, leb, ℤ, length, get_or, ◌≤ℤ◌, ◌<ℤ◌}
 use Rattle.std.proofs.Common.{subst, arith, not-suc-le-zero, below_more, ne_eqb, leb→le, le→leb}
 use Rattle.std.specs.Int.Signed.{clash_ℤ}
 use Rattle.whole.specs.Laws.Lists.{in_at}
 use Rattle.whole.specs.Tells.{Tells}
+use Rattle.whole.specs.Laws.Tells.{tells_as}
 use Rattle.words.specs.Layout.{entry_at, node_at, InTable}
 use Rattle.words.specs.Words.{nat_of}
 use Rattle.node.specs.Entry.{Entry, child_word, child_of, stamp_of, entry_count, entries_of}
@@ -57,6 +58,13 @@ none_all node k last b le = record {
 
 pub one_after : (node : List ℤ) (k : ℕ) (last s : ℤ) → k < entry_count node → s ≡ stamp_of (entry_at node k) → last <ℤ s → NoneAfter (entries_of node) last → ⊥
 one_after node k last s lt e h n = clash_ℤ h (rw e (n.none (entry_at node k) (entry_in node k lt)))
+
+-- a test that finds no entry after `last` at any place
+pub none_tells : (node : List ℤ) (last : ℤ) {r : Bool} → Tells r ((k : ℕ) → k < entry_count node → stamp_of (entry_at node k) ≤ℤ last) → Tells r (NoneAfter (entries_of node) last)
+none_tells node last t =
+    tells_as t
+    (λ f. none_all node (entry_count node) last (record { none = λ k lt. rw (entry_is node k lt) (f k lt) }) (omega arith))
+    (λ n k lt. n.none (entry_at node k) (entry_in node k lt))
 
 pub child_tells : (w : List ℤ) (cells : ℕ) (e : Entry) (c : ℕ) → IsNode cells (child_word e) → c ≡ entry_count (node_at w (child_of e)) → Tells (leb 3 c) (ChildSound (entries_at w) cells e)
 unfolding entries_at

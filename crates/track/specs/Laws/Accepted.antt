@@ -1,21 +1,20 @@
 -- Where 4 is not given no range can be denied, and each is stable; so what is accepted keeps its ranges.
 use Rattle.std.proofs.Common.{sym, subst}
-use Rattle.std.specs.Prelude.{ℤ}
+use Rattle.std.specs.Prelude.{ℤ, Result, Ok, Err, refl}
 use Rattle.whole.specs.Laws.Order.{≤ℤ_stable}
 use Rattle.whole.specs.Laws.Within.{within_stable}
 use Rattle.track.specs.Numbers.{IsMinute, IsIdentifier}
 use Rattle.track.specs.Laws.Numbers.{kept_in}
 use Rattle.track.specs.Laws.Refusals.{NoneZero, none_holds, not_zero}
-use Rattle.track.specs.Report.{ReportInRange, report_reasons, kept_cell, report_number, Reports}
-use Rattle.track.specs.Query.{EdgesInRange, QueryInRange, query_reasons, asked_number, Asks}
+use Rattle.track.specs.Report.{ReportInRange, report_reasons, kept_cell, Reports}
+use Rattle.track.specs.Query.{EdgesInRange, QueryInRange, query_reasons, Asks}
 use Rattle.track.specs.Life.{CellInRange}
 use Rattle.track.specs.Accepted.{KeptInRange, TakenInRange}
 use Rattle.track.specs.declared.cell.Cell.{Cell}
-use Rattle.track.specs.declared.cell.Reported.{Reported}
 use Rattle.track.specs.declared.report.Report.{Report}
 use Rattle.track.specs.declared.queries.Edges.{Edges}
 use Rattle.track.specs.declared.queries.Query.{Query}
-use Rattle.track.specs.declared.queries.Asked.{Asked}
+use Rattle.track.specs.declared.refusal.Refusal.{Refusal}
 
 -- ---- 4 says that a range is not kept; where it is not given no range can be denied, so each is kept
 pub minute_stable : {m : ℤ} → ((IsMinute m → ⊥) → ⊥) → IsMinute m
@@ -79,12 +78,14 @@ kept_cell_in h = record {
   expiry_in = h.expiry_in;
 }
 
-pub kept_in_range : {clock : ℤ} {r : Report} {answer : Reported} → Reports clock r answer → KeptInRange answer
-kept_in_range {clock} {r} {answer} h e =
-    let none = none_holds (report_reasons clock r) (report_number answer) (report_none_zero clock r) h.refusal e in
-    subst CellInRange (sym (h.cell e)) (kept_cell_in (report_stable none.0))
+pub kept_in_range : {clock : ℤ} {r : Report} {answer : Result Cell Refusal} → Reports clock r answer → KeptInRange answer
+kept_in_range {clock} {r} {answer = Ok c} h =
+    let none = none_holds (report_reasons clock r) 0 (report_none_zero clock r) h.refusal refl in
+    subst CellInRange (sym h.cell) (kept_cell_in (report_stable none.0))
+kept_in_range {answer = Err why} h = tt
 
-pub taken_in_range : {clock : ℤ} {Backward : Type 0} {q : Query} {a : Asked} → Asks clock Backward q a → TakenInRange a
-taken_in_range {clock} {Backward} {q} {a} h e =
-    let none = none_holds (query_reasons clock Backward q) (asked_number a) (query_none_zero clock Backward q) h.refusal e in
-    subst QueryInRange (sym (h.query e)) (query_stable none.0)
+pub taken_in_range : {clock : ℤ} {Backward : Type 0} {q : Query} {answer : Result Query Refusal} → Asks clock Backward q answer → TakenInRange answer
+taken_in_range {clock} {Backward} {q} {answer = Ok asked} h =
+    let none = none_holds (query_reasons clock Backward q) 0 (query_none_zero clock Backward q) h.refusal refl in
+    subst QueryInRange (sym h.query) (query_stable none.0)
+taken_in_range {answer = Err why} h = tt

@@ -1,9 +1,10 @@
 -- The reasons fix the number that is given; lists of reasons put together, and said in another way.
-use Rattle.std.specs.Prelude.{◌≡◌, refl, ◌↔◌, Bool, true, false, cond, List, [], ◌∷◌, ◌++◌, ℕ, zero, suc, ltb, ℤ, pos, get_or}
+use Rattle.std.specs.Prelude.{◌≡◌, refl, ◌↔◌, Bool, true, false, cond, List, [], ◌∷◌, ◌++◌, ℕ, zero, suc, ltb, ℤ, pos, get_or, Result, Ok, Err, IsOk}
 use Rattle.std.proofs.Common.{sym, ap, ◌∙◌, inl, inr, arith}
+use Rattle.std.specs.Int.{int_min}
 use Rattle.track.specs.declared.refusal.Refusal.{Refusal}
 use Rattle.track.specs.declared.refusal.Refusal.TheVariants.{NotSound, BadCapacity, ShortTable, OutOfRange, BeforeClock, ExpiresFirst, Backward, NotLive, Full, ShortList, BadHeader, BadRecord, ShortBytes, NoTrack}
-use Rattle.track.specs.Refusals.{number, Reason, ◌when◌, First, Gives, first_given}
+use Rattle.track.specs.Refusals.{number, number_of, Reason, ◌when◌, First, Gives, first_given}
 
 -- a refusal's number is not 0
 pub not_zero : {A : Type 0} (n : ℕ) → suc n ≡ 0 → A
@@ -52,6 +53,17 @@ at_number NoTrack = refl
 
 pub number_fixes : (r s : Refusal) → number r ≡ number s → r ≡ s
 number_fixes r s e = sym (at_number r) ∙ ap (λ (n : ℕ). get_or listed n NotSound) e ∙ at_number s
+
+pub ok_at_zero : {A : Type 0} (r : Result A Refusal) → number_of r ≡ 0 → IsOk r
+ok_at_zero (Ok x) e = refl
+ok_at_zero (Err why) e = absurd (refused_not_zero why e)
+
+-- two answers with one number are one, where what comes with them is
+pub same_answer : {A : Type 0} (r s : Result A Refusal) → number_of r ≡ number_of s → ((x y : A) → r ≡ Ok x → s ≡ Ok y → x ≡ y) → r ≡ s
+same_answer (Ok x) (Ok y) e same = ap Ok (same x y refl refl)
+same_answer (Ok x) (Err why) e same = absurd (refused_not_zero why (sym e))
+same_answer (Err why) (Ok y) e same = absurd (refused_not_zero why e)
+same_answer (Err why) (Err other) e same = ap Err (number_fixes why other e)
 
 -- so the number is fixed by the reasons
 pub first_fixed : (rs : List Reason) (m n : ℕ) → First rs m → First rs n → m ≡ n
@@ -108,6 +120,13 @@ pub first_is_first : (m n : ℕ) → (m ≡ 0 → ⊥) → ltb n m ≡ false →
 first_is_first zero n y e = absurd (y refl)
 first_is_first (suc m) zero y e = refl
 first_is_first (suc m) (suc n) y e = rw e
+
+pub first_is_least : (r s : Refusal) → int_min (pos (number r)) (pos (number s)) ≡ pos (first_given (number r) (number s))
+first_is_least r s = by (ltb (number s) (number r)) refl
+  where
+    by : (b : Bool) → ltb (number s) (number r) ≡ b → cond b (pos (number s)) (pos (number r)) ≡ pos (first_given (number r) (number s))
+    by true e = ap pos (sym (first_is_second (number r) (number s) (refused_not_zero r) (refused_not_zero s) e))
+    by false e = ap pos (sym (first_is_first (number r) (number s) (refused_not_zero r) e))
 
 pub none_given : (m n : ℕ) → first_given m n ≡ 0 → (m ≡ 0) × (n ≡ 0)
 none_given zero n e = (refl, e)

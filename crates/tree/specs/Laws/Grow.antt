@@ -1,5 +1,5 @@
 -- A root with room stays; a full one gets a new root above it and is parted.
-use Rattle.std.specs.Prelude.{◌≡◌, refl, List, [], ◌∷◌, ◌++◌, ℕ, suc, ◌+◌, ◌^◌, ◌≤◌, ◌<◌, ℤ, length}
+use Rattle.std.specs.Prelude.{◌≡◌, refl, Some, List, [], ◌∷◌, ◌++◌, ℕ, suc, ◌+◌, ◌^◌, ◌≤◌, ◌<◌, ℤ, length}
 use Rattle.std.proofs.Common.{sym, ap, ◌∙◌, subst, not-suc-le-zero, add-one, arith, le→leb}
 use Rattle.words.specs.Layout.{full_node, header, InTable}
 use Rattle.words.specs.Words.{nat_of}
@@ -68,15 +68,15 @@ module _ {w : List ℤ} {minute : ℤ} (can : CanGrow w minute) where
   pub height_low : height w + 1 < 2 ^ 31
   height_low = omega (arith, tall N cells minute (height w) (root w) whole.sound some, whole_used whole some, two_free, can.holding.ample.few)
 
-  module _ {above : ℕ} (first : FirstFree (entries_at w) (nodes_for (capacity w)) above) where
-    spare : (j : ℕ) × (j < nodes_for (capacity w)) × Free (entries_at w) j
-    spare = free_one N (nodes_for cells) (omega (arith, two_free))
+  pub spare : (j : ℕ) × (j < nodes_for (capacity w)) × Free (entries_at w) j
+  spare = free_one N (nodes_for cells) (omega (arith, two_free))
 
+  module _ {above : ℕ} (first : FirstFree (entries_at w) (nodes_for (capacity w)) (Some above)) where
     above_in : above < nodes_for (capacity w)
-    above_in = (found_free first spare).0
+    above_in = (found_free first).0
 
     free : Free (entries_at w) above
-    free = (found_free first spare).1
+    free = (found_free first).1
 
     apart : root w ≡ above → ⊥
     apart e = omega (arith, some, ap length (subst (Free N) (sym e) free))

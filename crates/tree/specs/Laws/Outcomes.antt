@@ -1,18 +1,16 @@
 -- Each way through a report and a drop: what the tests have told, and that the step is then the one that `Steps` asks for.
-use Rattle.std.specs.Prelude.{◌≡◌, refl, List, [], ◌∷◌, ℕ, ◌≤◌, ◌<◌, ℤ, pos, ◌≤ℤ◌, ◌<ℤ◌}
+use Rattle.std.specs.Prelude.{◌≡◌, refl, List, [], ◌∷◌, ℕ, ◌≤◌, ◌<◌, ℤ, pos, ◌≤ℤ◌, ◌<ℤ◌, Result, Ok, Err}
 use Rattle.std.proofs.Common.{sym, ap, ◌∙◌, subst, inl, inr, arith}
 use Rattle.std.proofs.lemmas.List.{length-map}
 use Rattle.std.specs.Int.Signed.{clash_ℤ}
 use Rattle.whole.specs.Laws.Order.{not_before, is_after}
 use Rattle.track.specs.Life.{LivesAt, CellInRange}
-use Rattle.track.specs.Refusals.{◌when◌, First, number}
+use Rattle.track.specs.Refusals.{◌when◌, First, number, number_of}
 use Rattle.track.specs.Laws.Refusals.{NoneHolds, none_holds, first_then, not_zero, refused_not_zero}
-use Rattle.track.specs.Report.{report_reasons, kept_cell, report_number, report_cell, Reports}
+use Rattle.track.specs.Report.{report_reasons, kept_cell, Reports}
 use Rattle.track.specs.Laws.Accepted.{minute_stable, report_none_zero, kept_in_range}
 use Rattle.track.specs.declared.cell.Cell.{Cell}
-use Rattle.track.specs.declared.cell.Reported.{Reported}
 use Rattle.track.specs.declared.report.Report.{Report}
-use Rattle.track.specs.declared.cell.Reported.TheVariants as reported
 use Rattle.track.specs.declared.refusal.Refusal.{Refusal}
 use Rattle.node.specs.Entry.{cell_of}
 use Rattle.node.specs.Inner.Made.{leaf_entry}
@@ -65,45 +63,42 @@ module _ {w : List ℤ} {r : Report} where
   pub report_unsound : (Sound w → ⊥) → ReportSteps w r 1 w
   report_unsound n = record { refusal = inl (n, refl); accepted = not_zero 0; refused = λ m. refl }
 
-  module _ (s : Sound w) {answer : Reported} (reports : Reports (clock w) r answer) where
-    pub report_refused : {why : Refusal} → answer ≡ reported.Refused why → ReportSteps w r (number why) w
+  module _ (s : Sound w) {answer : Result Cell Refusal} (reports : Reports (clock w) r answer) where
+    pub report_refused : {why : Refusal} → answer ≡ Err why → ReportSteps w r (number why) w
     report_refused {why} e = record {
       refusal = inr (
         λ n. n s,
         first_then (report_reasons (clock w) r) (9 when NoRoom w r.minute r.id ∷ []) (number why) (number why) (report_none_zero (clock w) r)
-            (subst (First (report_reasons (clock w) r)) (ap report_number e) reports.refusal) (inl (refused_not_zero why, refl)),
+            (subst (First (report_reasons (clock w) r)) (ap number_of e) reports.refusal) (inl (refused_not_zero why, refl)),
       );
       accepted = λ z. absurd (refused_not_zero why z);
       refused = λ n. refl;
     }
 
-    module _ {c : Cell} (kept : answer ≡ reported.Kept c) where
-      zero_is : report_number answer ≡ 0
-      zero_is = ap report_number kept
+    module _ {c : Cell} (kept : answer ≡ Ok c) where
+      accepted_as : Reports (clock w) r (Ok c)
+      accepted_as = rw kept at reports
 
       none : NoneHolds (report_reasons (clock w) r)
-      none = none_holds (report_reasons (clock w) r) (report_number answer) (report_none_zero (clock w) r) reports.refusal zero_is
-
-      cell_is : c ≡ kept_cell r
-      cell_is = sym (ap report_cell kept) ∙ reports.cell zero_is
+      none = none_holds (report_reasons (clock w) r) 0 (report_none_zero (clock w) r) accepted_as.refusal refl
 
       pub can_report : CanReport w r.minute c
       can_report = record {
         sound = s;
         is_minute = minute_stable (λ n. none.0 (λ h. n h.minute_in));
         later = not_before none.1.0;
-        in_range = subst CellInRange (ap report_cell kept) (kept_in_range reports zero_is);
-        lives = subst (LivesAt r.minute) (sym cell_is) (is_after none.1.1.0);
+        in_range = kept_in_range accepted_as;
+        lives = subst (LivesAt r.minute) (sym accepted_as.cell) (is_after none.1.1.0);
       }
 
       pub report_taken : {n : ℕ} {v : List ℤ} → CellSteps w r.minute c n v → ReportSteps w r n v
       report_taken {n} {v} steps =
-          let t : CellSteps w r.minute (kept_cell r) n v = subst (λ (d : Cell). CellSteps w r.minute d n v) cell_is steps in
+          let t : CellSteps w r.minute (kept_cell r) n v = subst (λ (d : Cell). CellSteps w r.minute d n v) accepted_as.cell steps in
           record {
             refusal = inr (
               λ m. m s,
               first_then (report_reasons (clock w) r) (9 when NoRoom w r.minute r.id ∷ []) 0 n (report_none_zero (clock w) r)
-                  (subst (First (report_reasons (clock w) r)) zero_is reports.refusal) (inr (λ m. m refl, t.refusal)),
+                  accepted_as.refusal (inr (λ m. m refl, t.refusal)),
             );
             accepted = t.accepted;
             refused = t.refused;

@@ -1,7 +1,9 @@
 -- How many cells stay: what each entry counts, and one law for each way through the walk.
-use Rattle.std.specs.Prelude.{◌≡◌, List, [], ◌∷◌, ℕ, suc, ◌+◌, ◌≤◌, ◌<◌, ℤ, length, get_or, take, drop}
+use Rattle.std.specs.Prelude.{◌≡◌, Bool, true, false, not, List, [], ◌∷◌, ℕ, suc, ◌+◌, ◌≤◌, ◌<◌, ℤ, length, get_or, take, drop}
 use Rattle.std.proofs.Math.Path.{refl}
-use Rattle.std.proofs.Common.{ap, ◌∙◌, take-append-drop, drop_of_length-le}
+use Rattle.std.specs.Int.{from_bool}
+use Rattle.whole.specs.Tells.{Tells}
+use Rattle.std.proofs.Common.{sym, ap, ◌∙◌, take-append-drop, drop_of_length-le}
 use native.Mathlib.Omega.{arith}
 use Rattle.node.specs.Entry.{Entry, cell_of, child_of}
 use Rattle.table.specs.Header.{capacity, greatest_capacity, entries_at}
@@ -34,6 +36,11 @@ module _ (minute id : ℤ) (e : Entry) where
       by : (d : Dec (Goes minute id (cell_of e))) → one_unless d ≡ 1
       by (yes p) = absurd (n p)
       by (no m) = refl
+
+  -- what a test that it goes counts
+  pub stays_told : {goes : Bool} → Tells goes (Goes minute id (cell_of e)) → from_bool (not goes) ≡ stays minute id e
+  stays_told {goes = true} t = sym (goes_none (t.sure tt))
+  stays_told {goes = false} t = sym (stays_one t.seen)
 
   pub none_goes : stays minute id e ≡ 0 → Goes minute id (cell_of e)
   unfolding stays

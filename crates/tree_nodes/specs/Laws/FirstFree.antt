@@ -1,10 +1,11 @@
 -- The search for the first free node, step by step; a node that is counted is free where it has no entries.
-use Rattle.std.specs.Prelude.{◌≡◌, ℕ, ◌+◌, ◌<◌, ℤ}
+use Rattle.std.specs.Prelude.{◌≡◌, refl, Option, Some, None, IsSome, MatchOption, ℕ, ◌+◌, ◌≤◌, ◌<◌, ℤ}
 use Rattle.std.proofs.Common.{subst, ◌∙◌, not-suc-le-zero, arith}
 use Rattle.std.proofs.Math.Path.{ap, sym}
 use mathlib.Core.List.{List, []}
-use Rattle.std.proofs.Math.Decide.{ℕ_discrete, dec_lt}
+use Rattle.std.proofs.Math.Decide.{ℕ_discrete}
 use Rattle.std.proofs.Math.ListN.{length, drop}
+use Rattle.std.proofs.lemmas.List.{nil_from_length}
 use Rattle.words.specs.Layout.{node_at}
 use Rattle.node.specs.Entry.{entries_of, entry_count}
 use Rattle.node.specs.Laws.Entry.{length-entries_of, entries_end}
@@ -13,16 +14,24 @@ use Rattle.table.specs.SoundTree.{Nodes}
 use Rattle.tree_laws.specs.Inner.Used.{Free}
 use Rattle.tree_nodes.specs.Inner.FirstFree.{NoneFree, FirstFree}
 
--- where there is a free node, it is one
-pub found_free : {N : Nodes} {n r : ℕ} → FirstFree N n r → (j : ℕ) × (j < n) × Free N j → (r < n) × Free N r
-found_free {N} {n} {r} f some = by (dec_lt some.0 r)
-  where
-    at : (some.0 < r → ⊥) → (r < n) × Free N r
-    at not_before = let low : r < n = omega (arith, some.1) in (low, f.free low)
+-- where there is a free node, one is found
+pub some_found : {N : Nodes} {n : ℕ} {r : Option ℕ} → FirstFree N n r → (j : ℕ) × (j < n) × Free N j → IsSome r
+some_found {r = None} f some = absurd ((f.none refl).taken some.0 some.1 some.2)
+some_found {r = Some i} f some = refl
 
-    by : Dec (some.0 < r) → (r < n) × Free N r
-    by (yes lt) = absurd (f.before.taken some.0 lt some.2)
-    by (no ne) = at ne
+-- the node that is found is a free one of those
+pub found_free : {N : Nodes} {n r : ℕ} → FirstFree N n (Some r) → (r < n) × Free N r
+found_free {r} f = let i = f.found r refl in (i.0, i.1)
+
+-- what a search of the numbers below n finds that tries how many entries a node has
+pub first_free : (N : Nodes) (n : ℕ) (r : Option ℕ)
+    → MatchOption r ((k : ℕ) → 0 ≤ k → k < n → length (N k) ≡ 0 → ⊥) (λ i. (0 ≤ i) × (i < n) × (length (N i) ≡ 0) × ((k : ℕ) → 0 ≤ k → k < i → length (N k) ≡ 0 → ⊥))
+    → FirstFree N n r
+first_free N n None none = record { found = λ i e. absurd (cc); none = λ e. record { taken = λ j lt f. none j (omega arith) lt (ap length f) } }
+first_free N n (Some i) f = record {
+  found = λ j e. let same : i ≡ j = cc in rw (← same) (f.1, nil_from_length (N i) f.2, record { taken = λ k lt g. f.3 k (omega arith) lt (ap length g) });
+  none = λ e. absurd (cc);
+}
 
 -- ---- for the search
 pub none_free : (N : Nodes) → NoneFree N 0

@@ -1,5 +1,5 @@
 -- What holds of the full child of a node before it is parted, and after each step of the parting.
-use Rattle.std.specs.Prelude.{◌≡◌, Bool, List, [], ◌∷◌, ◌++◌, ℕ, suc, ◌^◌, ◌<◌, ℤ, length, get_or, set}
+use Rattle.std.specs.Prelude.{◌≡◌, Some, Bool, List, [], ◌∷◌, ◌++◌, ℕ, suc, ◌^◌, ◌<◌, ℤ, length, get_or, set}
 use Rattle.std.proofs.Common.{sym, ap, ◌∙◌, subst, append-nil, arith, length-set}
 use mathlib.Core.List.Memᴰ
 use Rattle.words.specs.Layout.{full_node, InTable}
@@ -54,12 +54,12 @@ module _ {w : List ℤ} {minute : ℤ} {h i k : ℕ} (can : CanPartChild w minut
   is_full : length (entries_at w full) ≡ full_node
   is_full = rw is can.full
 
-  module _ {node : ℕ} (first : FirstFree (entries_at w) (nodes_for (capacity w)) node) where
+  module _ {node : ℕ} (first : FirstFree (entries_at w) (nodes_for (capacity w)) (Some node)) where
     node_low : node < nodes_for (capacity w)
-    node_low = (found_free first can.spare).0
+    node_low = (found_free first).0
 
     node_free : Free (entries_at w) node
-    node_free = (found_free first can.spare).1
+    node_free = (found_free first).1
 
     node_apart : node ≡ i → ⊥
     node_apart e = omega (arith, can.has, ap length (subst (Free (entries_at w)) e node_free))

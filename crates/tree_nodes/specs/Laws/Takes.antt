@@ -1,6 +1,6 @@
 -- A cell that goes, taken out below a node: one law for each way through the code.
 use Rattle.std.specs.Prelude.{◌≡◌, refl, Bool, true, false, ◌⊎◌, ℤ, length, get_or, drop}
-use Rattle.std.proofs.Common.{sym, subst, arith, drop_of_length-le}
+use Rattle.std.proofs.Common.{sym, ◌∙◌, subst, arith, drop_of_length-le}
 use Rattle.std.proofs.Math.Logic.{inl, inr, ⊎_elim}
 use mathlib.Core.List.Memᴰ
 use mathlib.Core.List.{List, [], ◌∷◌, flat_map}
@@ -145,3 +145,22 @@ module _ {w : List ℤ} {minute : ℤ} {h i k : ℕ} (can : CanTake w minute (su
       kept = kept_then t.kept (rw same_cells at m.kept);
       out = rw same_cells at (m.out N t.entry (rw node_same has) can.once (rw same_cells can.sound) (rw (same_cells, node_same) out));
     }
+
+-- ---- the loop over a node's entries: below those from k up to entry `at` none goes, and nothing has changed
+pub record TakesLeft (w : List ℤ) (minute id : ℤ) (h i k at : ℕ) (v : List ℤ) : Type 0 where
+  pub same : v ≡ w
+  pub rest : (r : Bool) (u : List ℤ) → Takes w minute id h i at r u → Takes w minute id h i k r u
+
+pub left_none : {w : List ℤ} {minute id : ℤ} {h i k : ℕ} → TakesLeft w minute id h i k k w
+left_none = record { same = refl; rest = λ r u t. t }
+
+module _ {w : List ℤ} {minute id : ℤ} {h i k at : ℕ} {v : List ℤ} (l : TakesLeft w minute id h i k at v) where
+  pub left_end : length (entries_at w i) ≤ at → Takes w minute id h i k false v
+  left_end few = rw l.same (l.rest false w (takes_end few))
+
+  -- below entry `at` none goes, or one is taken out
+  pub left_next : {u : List ℤ} → u ≡ v → at < length (entries_at w i) → NoneGoes (entries_at w) minute id h (get_or (entries_at w i) at [] ∷ []) → TakesLeft w minute id h i k (at + 1) u
+  left_next e low here = record { same = e ∙ l.same; rest = λ r u t. l.rest r u (takes_next low here t) }
+
+  pub left_one : {u : List ℤ} → Taken w minute id h i u → Takes w minute id h i k true u
+  left_one t = l.rest true _ (takes_one t)

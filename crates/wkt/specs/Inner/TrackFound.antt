@@ -1,5 +1,5 @@
 -- What is found on the way from a line to its cell.
-use Rattle.std.specs.Prelude.{◌≡◌, List, ◌++◌, ℕ, ◌≤◌, ℤ, pos, ◌-ℤ◌, ◌*ℤ◌, length, drop, ◌<ℤ◌}
+use Rattle.std.specs.Prelude.{◌≡◌, List, ◌++◌, ℕ, ◌≤◌, ℤ, pos, ◌-ℤ◌, ◌*ℤ◌, Option, Some, None, length, drop, ◌<ℤ◌}
 use Rattle.std.specs.Int.Signed.{quot_z}
 use Rattle.track.specs.Numbers.{IsMinute}
 use Rattle.track.specs.Life.{LivesAt, CellInRange}
@@ -9,12 +9,6 @@ use Rattle.wkt.specs.TrackLine.{PointText, TrackForm}
 use Rattle.wkt.specs.TrackRead.{GivesCell}
 use Rattle.wkt.specs.Inner.PointPut.{PointInRange}
 use Rattle.wkt.specs.declared.point.Point.{Point}
-use Rattle.wkt.specs.declared.reading.PointFound.{PointFound}
-use Rattle.wkt.specs.declared.reading.PointFound.TheVariants.{At, NoPoint}
-use Rattle.wkt.specs.declared.reading.PointsFound.{PointsFound}
-use Rattle.wkt.specs.declared.reading.PointsFound.TheVariants.{Two, NotTwo}
-use Rattle.wkt.specs.declared.reading.TrackRead.{TrackRead}
-use Rattle.wkt.specs.declared.reading.TrackRead.TheVariants.{Read, Refused}
 
 -- ---- the points of a line
 -- the bytes from `at` on are this point in a cell's range, and then `rest`
@@ -26,9 +20,9 @@ pub record PointStands (line : List ℕ) (at : ℕ) (p : Point) (rest : List ℕ
   pub is : drop at line ≡ text ++ rest
 
 -- where such a point stands it is found, and the cursor is past it. What is found where none stands is not said
-abbrev pub PointRead : List ℕ → ℕ → PointFound → Type 0
-PointRead line at (At p next) = (next ≤ length line) × ((q : Point) (rest : List ℕ) → PointStands line at q rest → (p ≡ q) × (drop next line ≡ rest))
-PointRead line at NoPoint = (q : Point) (rest : List ℕ) → PointStands line at q rest → ⊥
+abbrev pub PointRead : List ℕ → ℕ → Option (Point × ℕ) → Type 0
+PointRead line at (Some (p, next)) = (next ≤ length line) × ((q : Point) (rest : List ℕ) → PointStands line at q rest → (p ≡ q) × (drop next line ≡ rest))
+PointRead line at None = (q : Point) (rest : List ℕ) → PointStands line at q rest → ⊥
 
 -- the line is a track between these points in a cell's range
 pub record TrackStands (line : List ℕ) (first last : Point) : Type 0 where
@@ -36,9 +30,9 @@ pub record TrackStands (line : List ℕ) (first last : Point) : Type 0 where
   pub first_in : PointInRange first
   pub last_in : PointInRange last
 
-abbrev pub PointsRead : List ℕ → PointsFound → Type 0
-PointsRead line (Two p q) = (first last : Point) → TrackStands line first last → (p ≡ first) × (q ≡ last)
-PointsRead line NotTwo = (first last : Point) → TrackStands line first last → ⊥
+abbrev pub PointsRead : List ℕ → Option (Point × Point) → Type 0
+PointsRead line (Some (p, q)) = (first last : Point) → TrackStands line first last → (p ≡ first) × (q ≡ last)
+PointsRead line None = (first last : Point) → TrackStands line first last → ⊥
 
 -- ---- the cell through two points
 pub record InOrder (first last : Point) : Type 0 where
@@ -72,6 +66,6 @@ pub record OnlyThrough (id : ℤ) (first last : Point) (c : Cell) : Type 0 where
   pub lives : LivesAt first.minute c
   pub only : (d : Cell) → GivesCell id first last d → c ≡ d
 
-abbrev pub CellThrough : ℤ → Point → Point → TrackRead → Type 0
-CellThrough id first last (Read c) = OnlyThrough id first last c
-CellThrough id first last (Refused why) = (d : Cell) → GivesCell id first last d → ⊥
+abbrev pub CellThrough : ℤ → Point → Point → Option Cell → Type 0
+CellThrough id first last (Some c) = OnlyThrough id first last c
+CellThrough id first last None = (d : Cell) → GivesCell id first last d → ⊥

@@ -1,5 +1,5 @@
 -- A law for each way through the code that reads a line: its numbers, its points, the cell through them.
-use Rattle.std.specs.Prelude.{◌≡◌, List, ◌∷◌, ◌++◌, ℕ, suc, ◌+◌, ◌/◌, ◌^◌, ◌<◌, ℤ, pos, negsuc, nat_abs, ◌-ℤ◌, drop, ◌≤ℤ◌, ◌<ℤ◌}
+use Rattle.std.specs.Prelude.{◌≡◌, List, ◌∷◌, ◌++◌, ℕ, suc, ◌+◌, ◌/◌, ◌^◌, ◌<◌, ℤ, pos, negsuc, nat_abs, ◌-ℤ◌, Ok, Err, Some, None, drop, ◌≤ℤ◌, ◌<ℤ◌}
 use Rattle.std.proofs.Common.{sym, ap, ◌∙◌, subst, arith, leb→le, drop-drop, of_z}
 use Rattle.std.specs.Int.{w32}
 use Rattle.whole.specs.Within.{Within}
@@ -15,7 +15,6 @@ use Rattle.decimal.specs.Inner.DigitRuns.{Stops}
 use Rattle.decimal.specs.Inner.NumberRead.{NumberRead}
 use Rattle.decimal.specs.Laws.Spells.{no_digit, spells_signed, same_signed}
 use Rattle.decimal.specs.Laws.SignedDecimal.{signed_digits, signed_read_back}
-use Rattle.decimal.specs.declared.reading.NumberFound.TheVariants.{Number, Bad}
 use Rattle.wkt.specs.TrackLine.{comma, closing, LineOf}
 use Rattle.wkt.specs.TrackRead.{GivesCell, ReadsAs, ReadsTrack}
 use Rattle.wkt.specs.Laws.Metres.{stands_in}
@@ -24,16 +23,13 @@ use Rattle.wkt.specs.Laws.TrackRead.{some_minutes, velocity_again, gives_first, 
 use Rattle.wkt.specs.Inner.PointPut.{PointInRange}
 use Rattle.wkt.specs.Inner.TrackFound.{units_of, PointStands, PointRead, TrackStands, PointsRead, velocity_of, through_points, InOrder, OnlyThrough, CellThrough}
 use Rattle.wkt.specs.declared.point.Point.{Point}
-use Rattle.wkt.specs.declared.reading.PointFound.TheVariants.{At, NoPoint}
-use Rattle.wkt.specs.declared.reading.PointsFound.TheVariants.{Two, NotTwo}
-use Rattle.wkt.specs.declared.reading.TrackRead.TheVariants.{Read, Refused}
 
 -- ---- a number, where a spelling as it is written stands
 module _ (line : List ℕ) (at : ℕ) {y : ℤ} {s : List ℕ} (rest : List ℕ) (g : SignedDecimal y s) (stops : Stops rest) (stands : drop at line ≡ s ++ rest) where
-  number_follows : {z : ℤ} (next : ℕ) → NumberRead line at (Number z next) → (z ≡ y) × (drop next line ≡ rest)
+  number_follows : {z : ℤ} (next : ℕ) → NumberRead line at (Some (z, next)) → (z ≡ y) × (drop next line ≡ rest)
   number_follows next (inside, b) = same_signed (spells_signed b.spells) (signed_digits g) b.stops stops (sym b.is ∙ stands)
 
-  number_there : nat_abs y < 10 ^ 9 → NumberRead line at Bad → ⊥
+  number_there : nat_abs y < 10 ^ 9 → NumberRead line at None → ⊥
   number_there small none = none y rest (record { spelling = s; spells = signed_read_back g small; stops = stops; is = stands })
 
 -- past a byte
@@ -45,14 +41,14 @@ module _ {line : List ℕ} {at : ℕ} {q : Point} {rest : List ℕ} (st : PointS
   at_x : drop at line ≡ st.spelt.x_text ++ (32 ∷ (st.spelt.y_text ++ (32 ∷ (st.spelt.m_text ++ rest))))
   at_x = st.is ∙ point_spread st.spelt rest
 
-  module _ {x : ℤ} (after-x : ℕ) (rx : NumberRead line at (Number x after-x)) where
+  module _ {x : ℤ} (after-x : ℕ) (rx : NumberRead line at (Some (x, after-x))) where
     x_found : (x ≡ q.x) × (drop after-x line ≡ 32 ∷ (st.spelt.y_text ++ (32 ∷ (st.spelt.m_text ++ rest))))
     x_found = number_follows line at _ st.spelt.x_spelt (no_digit (omega arith)) at_x after-x rx
 
     at_y : drop (after-x + 1) line ≡ st.spelt.y_text ++ (32 ∷ (st.spelt.m_text ++ rest))
     at_y = past_byte line after-x x_found.1
 
-    module _ {y : ℤ} (after-y : ℕ) (ry : NumberRead line (after-x + 1) (Number y after-y)) where
+    module _ {y : ℤ} (after-y : ℕ) (ry : NumberRead line (after-x + 1) (Some (y, after-y))) where
       y_found : (y ≡ q.y) × (drop after-y line ≡ 32 ∷ (st.spelt.m_text ++ rest))
       y_found = number_follows line (after-x + 1) _ st.spelt.y_spelt (no_digit (omega arith)) at_y after-y ry
 
@@ -61,18 +57,18 @@ module _ {line : List ℕ} {at : ℕ} {q : Point} {rest : List ℕ} (st : PointS
 
 -- the ways through the code
 module _ (line : List ℕ) (at : ℕ) where
-  pub point_no_x : NumberRead line at Bad → PointRead line at NoPoint
+  pub point_no_x : NumberRead line at None → PointRead line at None
   point_no_x none = λ q rest st. number_there line at _ st.spelt.x_spelt (no_digit (omega arith)) (at_x st) (omega (arith, st.in_range.x_in.abs)) none
 
-  module _ {x : ℤ} (after-x : ℕ) (rx : NumberRead line at (Number x after-x)) where
-    pub point_no_y : NumberRead line (after-x + 1) Bad → PointRead line at NoPoint
+  module _ {x : ℤ} (after-x : ℕ) (rx : NumberRead line at (Some (x, after-x))) where
+    pub point_no_y : NumberRead line (after-x + 1) None → PointRead line at None
     point_no_y none = λ q rest st. number_there line (after-x + 1) _ st.spelt.y_spelt (no_digit (omega arith)) (at_y st after-x rx) (omega (arith, st.in_range.y_in.abs)) none
 
-    module _ {y : ℤ} (after-y : ℕ) (ry : NumberRead line (after-x + 1) (Number y after-y)) where
-      pub point_no_minute : NumberRead line (after-y + 1) Bad → PointRead line at NoPoint
+    module _ {y : ℤ} (after-y : ℕ) (ry : NumberRead line (after-x + 1) (Some (y, after-y))) where
+      pub point_no_minute : NumberRead line (after-y + 1) None → PointRead line at None
       point_no_minute none = λ q rest st. number_there line (after-y + 1) rest st.spelt.m_spelt st.stops (at_m st after-x rx after-y ry) (omega (arith, (minute_in st.in_range.minute_in).abs)) none
 
-      pub point_found : {m : ℤ} (end : ℕ) → NumberRead line (after-y + 1) (Number m end) → PointRead line at (At (record { x = x; y = y; minute = m }) end)
+      pub point_found : {m : ℤ} (end : ℕ) → NumberRead line (after-y + 1) (Some (m, end)) → PointRead line at (Some (record { x = x; y = y; minute = m }, end))
       point_found end rm = (
         rm.0,
         λ q rest st.
@@ -91,7 +87,7 @@ module _ {line : List ℕ} {first last : Point} (t : TrackStands line first last
     is = ap (drop 14) t.form.is;
   }
 
-  module _ {p : Point} (next : ℕ) (r : PointRead line 14 (At p next)) where
+  module _ {p : Point} (next : ℕ) (r : PointRead line 14 (Some (p, next))) where
     last_stands : PointStands line (next + 2) last closing
     last_stands =
         let past = (r.1 first (comma ++ (t.form.to ++ closing)) first_stands).1 in
@@ -104,14 +100,14 @@ module _ {line : List ℕ} {first last : Point} (t : TrackStands line first last
         }
 
 module _ (line : List ℕ) where
-  pub points_no_first : PointRead line 14 NoPoint → PointsRead line NotTwo
+  pub points_no_first : PointRead line 14 None → PointsRead line None
   points_no_first none = λ first last t. none first _ (first_stands t)
 
-  module _ {p : Point} (next : ℕ) (r : PointRead line 14 (At p next)) where
-    pub points_no_last : PointRead line (next + 2) NoPoint → PointsRead line NotTwo
+  module _ {p : Point} (next : ℕ) (r : PointRead line 14 (Some (p, next))) where
+    pub points_no_last : PointRead line (next + 2) None → PointsRead line None
     points_no_last none = λ first last t. none last _ (last_stands t next r)
 
-    pub points_found : {q : Point} (end : ℕ) → PointRead line (next + 2) (At q end) → PointsRead line (Two p q)
+    pub points_found : {q : Point} (end : ℕ) → PointRead line (next + 2) (Some (q, end)) → PointsRead line (Some (p, q))
     points_found end s = λ first last t. ((r.1 first _ (first_stands t)).0, (s.1 last _ (last_stands t next r)).0)
 
 -- ---- the cell through them
@@ -130,21 +126,21 @@ minutes_between {first} {last} o = (some_minutes first.minute last.minute o.befo
     no_more = all2 _ λ _ _ _ _. simp difs (λ h k. omega (arith, h, k))
 
 module _ {id : ℤ} {first last : Point} where
-  pub through_backward : (InOrder first last → ⊥) → CellThrough id first last (Refused NoTrack)
+  pub through_backward : (InOrder first last → ⊥) → CellThrough id first last None
   through_backward n = λ d g. n (record { first_in = g.first_minute_in; last_in = g.last_minute_in; before = g.in_order })
 
   pub through_fast : {vx vy : ℤ} → vx ≡ velocity_of first.x last.x (last.minute -ℤ first.minute) → vy ≡ velocity_of first.y last.y (last.minute -ℤ first.minute)
-      → (IsVelocity vx × IsVelocity vy → ⊥) → CellThrough id first last (Refused NoTrack)
+      → (IsVelocity vx × IsVelocity vy → ⊥) → CellThrough id first last None
   through_fast e f n = λ d g. n (
     subst IsVelocity (sym (e ∙ velocity_again g.on_x g.in_order)) g.on_x.velocity_in,
     subst IsVelocity (sym (f ∙ velocity_again g.on_y g.in_order)) g.on_y.velocity_in,
   )
 
   module _ {c : Cell} (is : c ≡ through_points id first last) where
-    pub through_outside : (CellInRange c → ⊥) → CellThrough id first last (Refused NoTrack)
+    pub through_outside : (CellInRange c → ⊥) → CellThrough id first last None
     through_outside n = λ d g. n (subst CellInRange (sym (is ∙ gives_only g)) (gives_in_range g))
 
-    pub through_found : CellInRange c → InOrder first last → CellThrough id first last (Read c)
+    pub through_found : CellInRange c → InOrder first last → CellThrough id first last (Some c)
     through_found h order = record {
       in_range = h;
       identifier_is = ap (λ (d : Cell). d.id) is;
@@ -166,27 +162,27 @@ reads_stands r =
     }
 
 module _ {id : ℤ} {line : List ℕ} where
-  pub read_no_points : PointsRead line NotTwo → ReadsTrack id line (Refused NoTrack)
+  pub read_no_points : PointsRead line None → ReadsTrack id line (Err NoTrack)
   read_no_points none = none_read (λ c r. none r.first r.last (reads_stands r))
 
-  module _ {first last : Point} (both : PointsRead line (Two first last)) where
+  module _ {first last : Point} (both : PointsRead line (Some (first, last))) where
     -- a cell that is read goes through the points that were found
     goes_through : {c : Cell} → ReadsAs id line c → GivesCell id first last c
     goes_through {c} r =
         let same = both r.first r.last (reads_stands r) in
         subst (λ (p : Point). GivesCell id p last c) (sym same.0) (subst (λ (q : Point). GivesCell id r.first q c) (sym same.1) r.gives)
 
-    pub read_no_cell : ((c : Cell) → GivesCell id first last c → ⊥) → ReadsTrack id line (Refused NoTrack)
+    pub read_no_cell : ((c : Cell) → GivesCell id first last c → ⊥) → ReadsTrack id line (Err NoTrack)
     read_no_cell none = none_read (λ c r. none c (goes_through r))
 
     module _ {c : Cell} (through : OnlyThrough id first last c) {own : List ℕ} (is : LineOf first.minute c own) where
-      pub read_other : (line ≡ own → ⊥) → ReadsTrack id line (Refused NoTrack)
+      pub read_other : (line ≡ own → ⊥) → ReadsTrack id line (Err NoTrack)
       read_other n = none_read (λ d r.
           let minute = ap (λ (p : Point). p.minute) (both r.first r.last (reads_stands r)).0 in
           let same = through.only d (goes_through r) in
           n (one_line (line_back r) (subst (λ (m : ℤ). LineOf m d own) minute (subst (λ (k : Cell). LineOf first.minute k own) same is))))
 
-      pub read_same : line ≡ own → ReadsTrack id line (Read c)
+      pub read_same : line ≡ own → ReadsTrack id line (Ok c)
       read_same e =
           let back = track_back through.in_range through.minute_in through.lives (subst (LineOf first.minute c) (sym e) is) in
           let read = subst (λ (k : ℤ). ReadsAs k line c) through.identifier_is back in

@@ -1,5 +1,5 @@
 -- The cell that a line gives: it is one, its line is the one that was read, and the line of a cell gives the cell back.
-use Rattle.std.specs.Prelude.{◌≡◌, refl, List, ℕ, ℤ, pos, ◌+ℤ◌, ◌-ℤ◌, ◌*ℤ◌, ◌≤ℤ◌, ◌<ℤ◌}
+use Rattle.std.specs.Prelude.{◌≡◌, refl, List, ℕ, ℤ, pos, ◌+ℤ◌, ◌-ℤ◌, ◌*ℤ◌, ◌≤ℤ◌, ◌<ℤ◌, Result, Ok, Err}
 use Rattle.std.proofs.Common.{sym, ap, ap₂, ◌∙◌, subst, inl, inr, arith}
 use Rattle.std.proofs.Math.IntN.{*ℤ_comm}
 use Rattle.std.specs.Int.Signed.{quot_z, le_z_yes}
@@ -7,17 +7,17 @@ use Rattle.whole.specs.Laws.Quotients.{quot_exact}
 use Rattle.whole.specs.Laws.Difference.{difs, all2, all3, all4}
 use Rattle.track.specs.Numbers.{IsMinute, IsVelocity, IsKept}
 use Rattle.track.specs.Life.{LivesAt, CellInRange}
-use Rattle.track.specs.Laws.Refusals.{not_zero, first_fixed, refused_not_zero, number_fixes}
+use Rattle.track.specs.Laws.Refusals.{first_fixed, same_answer}
 use Rattle.track.specs.declared.cell.Cell.{Cell}
 use Rattle.track.specs.declared.refusal.Refusal.TheVariants.{NoTrack}
 use Rattle.wkt.specs.Metres.{metres, stands_at}
 use Rattle.wkt.specs.TrackLine.{PointForm, TrackForm, LineOf}
-use Rattle.wkt.specs.TrackRead.{AxisGives, GivesCell, ReadsAs, track_reasons, track_number, track_cell, ReadsTrack}
+use Rattle.wkt.specs.TrackRead.{AxisGives, GivesCell, ReadsAs, track_reasons, ReadsTrack}
 use Rattle.wkt.specs.Laws.TrackLine.{live_line, line_of_live, form_fixed, same_point}
 use Rattle.wkt.specs.Inner.TrackFound.{units_of, velocity_of, kept_of, through_points}
 use Rattle.wkt.specs.declared.point.Point.{Point}
-use Rattle.wkt.specs.declared.reading.TrackRead.{TrackRead}
-use Rattle.wkt.specs.declared.reading.TrackRead.TheVariants.{Read, Refused}
+use Rattle.track.specs.declared.refusal.Refusal.{Refusal}
+use Rattle.track.specs.Refusals.{number_of}
 
 -- ---- on one axis: kept at z with velocity v, a cell stands at z + v m at the minute m
 stands_there : (z u v m : ℤ) → z ≡ u -ℤ v *ℤ m → u ≡ z +ℤ v *ℤ m
@@ -152,17 +152,13 @@ reads_same {id} r s =
     let same = form_fixed r.form s.form in
     sym (gives_only r.gives) ∙ ap₂ (through_points id) same.0 same.1 ∙ gives_only s.gives
 
-pub read_accepted : {id : ℤ} {line : List ℕ} {c : Cell} → ReadsAs id line c → ReadsTrack id line (Read c)
-read_accepted {c} r = record { refusal = inr (λ none. none c r, refl); cell = λ e. r }
+pub read_accepted : {id : ℤ} {line : List ℕ} {c : Cell} → ReadsAs id line c → ReadsTrack id line (Ok c)
+read_accepted {c} r = record { refusal = inr (λ none. none c r, refl); cell = r }
 
-pub none_read : {id : ℤ} {line : List ℕ} → ((c : Cell) → ReadsAs id line c → ⊥) → ReadsTrack id line (Refused NoTrack)
-none_read n = record { refusal = inl (n, refl); cell = λ e. not_zero 13 e }
+pub none_read : {id : ℤ} {line : List ℕ} → ((c : Cell) → ReadsAs id line c → ⊥) → ReadsTrack id line (Err NoTrack)
+none_read n = record { refusal = inl (n, refl); cell = tt }
 
-pub read_track_fixed : {id : ℤ} {line : List ℕ} (r s : TrackRead) → ReadsTrack id line r → ReadsTrack id line s → r ≡ s
-read_track_fixed {id} {line} r s p q = by r s p.cell q.cell (first_fixed (track_reasons id line) (track_number r) (track_number s) p.refusal q.refusal)
-  where
-    by : (r s : TrackRead) → (track_number r ≡ 0 → ReadsAs id line (track_cell r)) → (track_number s ≡ 0 → ReadsAs id line (track_cell s)) → track_number r ≡ track_number s → r ≡ s
-    by (Read c) (Read d) f g e = ap Read (reads_same (f refl) (g refl))
-    by (Read c) (Refused why) f g e = absurd (refused_not_zero why (sym e))
-    by (Refused why) (Read d) f g e = absurd (refused_not_zero why e)
-    by (Refused why) (Refused other) f g e = ap Refused (number_fixes why other e)
+pub read_track_fixed : {id : ℤ} {line : List ℕ} (r s : Result Cell Refusal) → ReadsTrack id line r → ReadsTrack id line s → r ≡ s
+read_track_fixed {id} {line} r s p q =
+    same_answer r s (first_fixed (track_reasons id line) (number_of r) (number_of s) p.refusal q.refusal)
+    (λ c d e f. reads_same (rw e at p.cell) (rw f at q.cell))

@@ -2,7 +2,6 @@ use mathlib.Core.Path.{refl}
 use borrow.Author.Rules.{rules}
 use lib.IntN.{pos}
 use Rattle.words.specs.Parts.{part}
-use Rattle.whole.specs.Laws.Within.{word_back}
 use Rattle.words.proofs.Runs.{written_none, written_all, copied_next}
 use Rattle.words.proofs.copy_within.Goals as goal
 
@@ -12,7 +11,7 @@ loop-j-init c = written_none refl
 
 pub loop-j-preserved : goal.loop-j-preserved
 loop-j-preserved c =
-    copied_next c.requires c.loop-j.invariant (pos 0) _ (word_back _ c.t-1.given) (search rules)
+    copied_next c.requires c.loop-j.invariant (pos 0) _ (search rules) (search rules)
 
 pub returns : goal.returns
 returns c = written_all c.loop-j.invariant (search rules)

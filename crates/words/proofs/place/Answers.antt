@@ -1,34 +1,19 @@
-use mathlib.Core.Path.{sym}
-use Prim.Native.Nat.{◌<◌, ◌^◌}
-use native.Mathlib.Omega.{arith}
-use lib.IntN.{pos}
-use lib.Signed.{◌≤ℤ◌, yes_non_neg}
-use mir.Syntax.{w32}
-use Rattle.whole.specs.Laws.Order.{lt_z_true, lt_z_false}
-use Rattle.whole.specs.Laws.Within.{back}
+use Rattle.std.proofs.Common.{◌≡◌, refl, zero, suc, to_z, of_z, ℤ, pos, negsuc, nat_abs, arith}
+use Rattle.std.specs.Int.{w32, int_max}
+use Rattle.std.proofs.lemmas.Bool.{lt-ltb}
+use Rattle.whole.specs.Laws.Within.{back, word_back}
 use Rattle.words.specs.Words.{nat_of}
-use Rattle.words.specs.Laws.Words.{nat_of-abs, nat_of_fits, nat_of_negative}
+use Rattle.words.specs.Laws.Words.{nat_of_fits}
 use Rattle.words.proofs.place.Goals as goal
 
-small : (s : goal.Else-z-lt0) → nat_of s.args.z < 2 ^ 31
-small s = nat_of_fits w32 s.args.z s.ranges.z
+at_least_none : (z : ℤ) → nat_abs (int_max z (pos 0)) ≡ nat_of z
+unfolding nat_of
+at_least_none (pos zero) = refl
+at_least_none (pos (suc n)) = rw (lt-ltb 0 (suc n) (omega arith))
+at_least_none (negsuc n) = refl
 
-not_negative : (c : goal.Else-z-lt0) → pos 0 ≤ℤ c.args.z
-not_negative c = lt_z_false (simp (back c.ranges.z) at c.if-z-lt0.false)
-
-pub overflow_cast-result : goal.overflow_cast-result
-overflow_cast-result c =
-    let s = c in
-    let abs = nat_of-abs s.args.z (not_negative c) in
-    simp (back s.ranges.z) (yes_non_neg (not_negative c), omega (arith, small s))
-
-pub returns-then-z-lt0 : goal.returns-then-z-lt0
-returns-then-z-lt0 c =
-    let s = c in
-    (sym (nat_of_negative s.args.z (lt_z_true (simp (back s.ranges.z) at c.if-z-lt0.true))), omega arith)
-
-pub returns-else-z-lt0 : goal.returns-else-z-lt0
-returns-else-z-lt0 c =
-    let s = c in
-    let abs = nat_of-abs s.args.z (not_negative c) in
-    simp (back s.ranges.z) (abs, omega (arith, small s))
+pub returns : goal.returns
+returns c =
+    let z = c.args.z in
+    let count : nat_abs (to_z w32 (of_z w32 c.max.result)) ≡ nat_of z = rw (word_back c.max.result c.max.type_inv, c.max.ensures.value, back c.ranges.z) (at_least_none z) in
+    (count, rw count (nat_of_fits w32 z c.ranges.z))

@@ -1,10 +1,9 @@
-use Prim.Native.Nat.{◌+◌}
-use native.Mathlib.Omega.{arith}
-use Rattle.words.specs.Laws.Words.{row_at_past}
+use Rattle.std.proofs.Common.{add-zero}
+use Rattle.words.specs.Laws.Words.{row_at_rest}
 use Rattle.words.proofs.rows.Goals as goal
 
-pub returns-else-at-t : goal.returns-else-at-t
-returns-else-at-t c =
+pub returns : goal.returns
+returns c =
     let w = c.args.t.now in
     let at = c.args.at in
-    rw (row_at_past w at c.if-at-t.false, row_at_past w (at + 4) (omega arith))
+    rw (c.row.ensures, c.row-2.ensures, c.from_place-rest.ensures, row_at_rest w at 0, row_at_rest w at 4, add-zero)

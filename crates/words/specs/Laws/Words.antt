@@ -1,6 +1,7 @@
 -- Laws of words as counts, and of rows.
-use Rattle.std.specs.Prelude.{◌≡◌, refl, List, [], ◌∷◌, ℕ, ◌+◌, ◌^◌, ◌<◌, ◌≤◌, leb, ltb, ℤ, pos, negsuc, nat_abs, ◌≤ℤ◌, ◌<ℤ◌, length}
+use Rattle.std.specs.Prelude.{◌≡◌, refl, List, [], ◌∷◌, ℕ, ◌+◌, ◌^◌, ◌<◌, ◌≤◌, leb, ltb, ℤ, pos, negsuc, nat_abs, ◌≤ℤ◌, ◌<ℤ◌, length, drop}
 use Rattle.std.proofs.Common.{◌∙◌, arith, le→leb, ltb→lt, lt→ltb, add-zero, add_assoc}
+use Rattle.std.proofs.Math.Seq.{get_or-drop}
 use Rattle.std.specs.Int.Signed.{le_z_yes}
 use Rattle.whole.specs.Tells.{Tells}
 use Rattle.whole.specs.Laws.Order.{le_z_tells, lt_z_tells}
@@ -74,6 +75,10 @@ row_at_whole r four = row_at_part r 0 (omega arith) ∙ part_whole r 4 four
 -- a row of a part
 pub row_at_in_part : (w : List ℤ) (a k at : ℕ) → at + 4 ≤ k → row_at (part w a k) at ≡ row_at w (a + at)
 row_at_in_part w a k at h = row_at_same (part w a k) w at (a + at) λ j l. get_or_part w a k (at + j) (pos 0) (omega arith) ∙ rw (add_assoc a at j)
+
+-- a row of what is left of the table from `a` on
+pub row_at_rest : (w : List ℤ) (a at : ℕ) → row_at (drop a w) at ≡ row_at w (a + at)
+row_at_rest w a at = row_at_same (drop a w) w at (a + at) λ j l. get_or-drop a w (at + j) (pos 0) ∙ rw (add_assoc a at j)
 
 -- ---- two rows
 pub rows_at_in_part : (w : List ℤ) (a k at : ℕ) → at + 8 ≤ k → rows_at (part w a k) at ≡ rows_at w (a + at)

@@ -4,7 +4,7 @@ use Rattle.calls.proofs.sheets.bradawlet_read.Goals as goal
 
 pub returns : goal.returns
 returns c = record {
-  outcome = c.read_sheet-outcome.result;
-  reads = simp (back c.ranges.cells) at c.read_sheet-outcome.ensures;
-  number_is = word_back c.number.result c.number.type_inv ∙ c.number.ensures;
+  outcome = c.read_sheet.result;
+  reads = simp (back c.ranges.cells) at c.read_sheet.ensures;
+  number_is = word_back c.number_of.result c.number_of.type_inv ∙ c.number_of.ensures;
 }

@@ -1,27 +1,28 @@
-use Rattle.std.proofs.Common.{◌+◌, ◌^◌, subst, arith}
+use Rattle.std.proofs.Common.{◌≡◌, ◌+◌, ◌^◌, ◌<◌, length, get_or, arith}
 use Rattle.whole.specs.Within.{Within}
 use Rattle.whole.specs.Laws.Within.{read32, neg_read32}
-use Rattle.decimal.specs.Inner.NumberRead.{DigitsRead}
 use Rattle.decimal.specs.Laws.NumberRead.{digits_in, no_number_left, negative, not_negative}
-use Rattle.decimal.specs.declared.reading.NumberFound.TheVariants.{Number}
 use Rattle.decimal.proofs.reading.read_number.Goals as goal
+use Rattle.decimal.proofs.reading.read_number.Goals.{After-digits-2, In_ok-size}
 
-pub returns-then-line-at : goal.returns-then-line-at
-returns-then-line-at c = no_number_left c.args.line.now c.args.at c.if-line-at.true
+pub returns-in_err-get : goal.returns-in_err-get
+returns-in_err-get c = rw c.from_residual.ensures (no_number_left c.args.line.now c.args.at c.in_err-get.ensures.lookup.3)
 
-pub returns-in_default : goal.returns-in_default
-returns-in_default c =
-    not_negative c.args.line.now c.args.at c.if-line-at.false (omega arith)
-    (subst (DigitsRead c.args.line.now (c.args.at + 1)) c.in_default.is c.digits-2.ensures)
+-- a minus stands at the cursor
+minus : (c : After-digits-2) → (c.args.at < length c.args.line.now) × (get_or c.args.line.now c.args.at 0 ≡ 45)
+minus c = let first = c.in_ok-get.ensures.lookup.3 in (first.0, omega (arith, first.1 0))
 
--- the digits after the minus
-read : (c : goal.In-Number) → DigitsRead c.args.line.now (c.args.at + 1) (Number c.in-Number.size c.in-Number.next)
-read c = subst (DigitsRead c.args.line.now (c.args.at + 1)) c.in-Number.is c.digits-2.ensures
+pub returns-in_err-size : goal.returns-in_err-size
+returns-in_err-size c =
+    let m = minus (goal.at.returns-in_err-size c).After-digits-2 in
+    rw c.from_residual-in_err-size.ensures (not_negative c.args.line.now c.args.at m.0 m.1 c.in_err-size.ensures)
 
-small : (c : goal.In-Number) → Within (10 ^ 9) c.in-Number.size
-small c = digits_in c.args.line.now (c.args.at + 1) c.in-Number.next (read c)
+small : (c : In_ok-size) → Within (10 ^ 9) c.in_ok-size.size
+small c = digits_in c.args.line.now (c.args.at + 1) c.in_ok-size.next c.in_ok-size.ensures
 
 pub returns : goal.returns
 returns c =
-    negative c.args.line.now c.args.at c.in-Number.next c.if-line-at.false (omega arith) (read c)
-    (simp (read32 tt (small c)) (neg_read32 tt (small c)))
+    let at = goal.at.returns c in
+    let m = minus at.After-digits-2 in
+    let s = small at.In_ok-size in
+    negative c.args.line.now c.args.at c.in_ok-size.next m.0 m.1 c.in_ok-size.ensures (simp (read32 tt s) (neg_read32 tt s))

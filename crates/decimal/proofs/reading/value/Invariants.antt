@@ -1,10 +1,6 @@
-use Rattle.std.proofs.Common.{◌-◌, ◌≤◌}
-use Rattle.words.specs.Parts.{part}
+use Rattle.std.proofs.Common.{take}
 use Rattle.decimal.specs.Spells.{Digits}
 use Rattle.decimal.proofs.reading.value.Given as goal
 
-abbrev pub invariant-loop-k : goal.invariant-loop-k
-invariant-loop-k l = (l.k ≤ l.n) × Digits l.sum (part l.line l.at l.k)
-
-abbrev pub decreases-loop-k : goal.decreases-loop-k
-decreases-loop-k l = l.n - l.k
+abbrev pub invariant-loop-b : goal.invariant-loop-b
+invariant-loop-b l = Digits l.sum (take l.b-index l.digits)

@@ -1,13 +1,10 @@
-use Rattle.desk_lines.specs.Laws.FieldsRead.{no_field_left, no_space, after_space}
+use Rattle.std.proofs.Common.{rules}
+use Rattle.desk_lines.specs.Laws.FieldsRead.{no_field_there, after_space}
 use Rattle.desk_lines.proofs.field.field.Goals as goal
 
-pub returns-then-line-at : goal.returns-then-line-at
-returns-then-line-at c = no_field_left c.args.line.now c.args.at c.if-line-at.true
-
-pub returns-then-line-at-ne32 : goal.returns-then-line-at-ne32
-returns-then-line-at-ne32 c =
-    no_space c.args.line.now c.args.at c.if-line-at.false c.if-line-at-ne32.true
+pub returns-then-ne : goal.returns-then-ne
+returns-then-ne c = no_field_there c.args.line.now c.args.at (λ h e. search rules)
 
 pub returns : goal.returns
 returns c =
-    after_space c.args.line.now c.args.at c.read_number.result c.if-line-at.false c.if-line-at-ne32.false c.read_number.ensures
+    after_space c.args.line.now c.args.at c.read_number.result (search rules) (search rules) c.read_number.ensures

@@ -1,6 +1,5 @@
 use native.Mathlib.Omega.{arith}
-use Prim.Native.Nat.{◌-◌}
-use lib.ListN.{length, drop, length-take, length-drop}
+use Rattle.std.proofs.lemmas.Grind.{common_steps}
 use Rattle.desk_lines.specs.Laws.LineHeld.{keeps_byte}
 use Rattle.desk_serve.specs.Laws.Serving.{heard_byte, heard_lent, answer_fits}
 use Rattle.desk_serve.proofs.serving.take_byte.Goals as goal
@@ -10,10 +9,7 @@ returns-then-b-ne-LINE_FEED c =
     heard_byte c.if-b-ne-LINE_FEED.true c.requires.2 (omega (arith, c.requires.3)) (keeps_byte c.keep_byte.ensures)
 
 pub overflow_add-result : goal.overflow_add-result
-overflow_add-result c =
-    let out = c.args.out.now in
-    let at = c.args.at.written in
-    record { fits = omega (arith, answer_fits c.requires.2 c.answer_held-n.ensures, length-take (length out - at) (drop at out), length-drop at out, c.well_formed.1.1.1.0.0) }
+overflow_add-result c = grind (arith, common_steps, answer_fits c.requires.2 c.answer_held-n.ensures)
 
 pub returns : goal.returns
 returns c =

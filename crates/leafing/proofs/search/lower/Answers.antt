@@ -42,12 +42,12 @@ pub returns-then-b-c : goal.returns-then-b-c
 returns-then-b-c c =
     let s = (goal.at.returns-then-b-c c).Start in
     let here = passed (told s) c.if-not-in_life-above.false in
-    let fits : SFits w32 c.in-One.b.id = search rules in
-    extends_kept _ _ here.0 here.1 _ _ c.in-One.is (le_z_true (simp (id_is s, back {w = w32} fits) at c.if-b-c.true))
+    let fits : SFits w32 c.in-Some.b.id = search rules in
+    extends_kept _ _ here.0 here.1 _ _ c.in-Some.is (le_z_true (simp (id_is s, back {w = w32} fits) at c.if-b-c.true))
 
 pub returns-else-b-c : goal.returns-else-b-c
 returns-else-b-c c =
     let s = (goal.at.returns-else-b-c c).Start in
     let here = passed (told s) c.if-not-in_life-above.false in
-    let fits : SFits w32 c.in-One.b.id = search rules in
-    extends_lower _ _ here.0 here.1 _ _ c.in-One.is (<ℤ→≤ℤ (le_z_false (simp (id_is s, back {w = w32} fits) at c.if-b-c.false)))
+    let fits : SFits w32 c.in-Some.b.id = search rules in
+    extends_lower _ _ here.0 here.1 _ _ c.in-Some.is (<ℤ→≤ℤ (le_z_false (simp (id_is s, back {w = w32} fits) at c.if-b-c.false)))

@@ -1,21 +1,15 @@
-use lib.ListN.{take}
-use Prim.Native.Nat.{◌≤◌}
-use Rattle.words.specs.Laws.Layout.{lent_with}
+use Rattle.std.proofs.Common.{◌≤◌, take}
 use Rattle.node.specs.Entry.{entry_count}
-use Rattle.node.specs.Laws.ChangeAt.{lent_changed, lent_count}
-use borrow.Author.Rules.{rules}
+use Rattle.node.specs.Laws.ChangeAt.{range_with, range_changed, range_count}
 use Rattle.node.proofs.change_at.keep_at.Goals as goal
 
 pub keep-requires : goal.keep-requires
-keep-requires c =
-    let a = c.args in
-    lent_with (λ n. a.n ≤ entry_count n) a.t.now a.i c.node_start-a.result (search rules) (search rules) (search rules)
+keep-requires c = range_with c.args.t.now c.args.i _ _ c.node_range.ensures c.requires.0 (λ n. c.args.n ≤ entry_count n) c.requires.1
 
 pub returns : goal.returns
 returns c =
-    let a = c.args in
-    let start = c.node_start-a in
-    let call = c.keep in (
-      lent_changed a.t.now a.i start.result start.ensures c.requires.0 (take a.n) call.ensures.0,
-      lent_count a.t.now a.i start.result start.ensures c.requires.0 call.ensures.0 call.ensures.1,
+    let w = c.args.t.now in
+    let i = c.args.i in (
+      range_changed w i _ _ c.node_range.ensures c.requires.0 (take c.args.n) c.keep.ensures.0,
+      range_count w i _ _ c.node_range.ensures c.requires.0 c.keep.ensures.0 c.keep.ensures.1,
     )

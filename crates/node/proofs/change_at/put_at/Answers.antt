@@ -1,19 +1,10 @@
-use lib.ListN.{set}
-use Prim.Native.Nat.{◌<◌}
-use Rattle.words.specs.Laws.Layout.{lent_with}
+use Rattle.std.proofs.Common.{◌<◌, set}
 use Rattle.node.specs.Entry.{entry_count}
-use Rattle.node.specs.Laws.ChangeAt.{lent_changed}
-use borrow.Author.Rules.{rules}
+use Rattle.node.specs.Laws.ChangeAt.{range_with, range_changed}
 use Rattle.node.proofs.change_at.put_at.Goals as goal
 
 pub put-requires : goal.put-requires
-put-requires c =
-    let a = c.args in
-    lent_with (λ n. a.k < entry_count n) a.t.now a.i c.node_start-a.result (search rules) (search rules) (search rules)
+put-requires c = range_with c.args.t.now c.args.i _ _ c.node_range.ensures c.requires.0 (λ n. c.args.k < entry_count n) c.requires.1
 
 pub returns : goal.returns
-returns c =
-    let a = c.args in
-    let start = c.node_start-a in
-    let call = c.put in
-    lent_changed a.t.now a.i start.result start.ensures c.requires.0 (λ es. set es a.k a.e) call.ensures
+returns c = range_changed c.args.t.now c.args.i _ _ c.node_range.ensures c.requires.0 (λ es. set es c.args.k c.args.e) c.put.ensures

@@ -1,19 +1,11 @@
-use Prim.Native.Nat.{◌<◌}
-use Rattle.words.specs.Laws.Layout.{lent_with}
+use Rattle.std.proofs.Common.{◌<◌}
 use Rattle.node.specs.Entry.{entry_count}
 use Rattle.node.specs.Inner.Change.{without}
-use Rattle.node.specs.Laws.ChangeAt.{lent_changed}
-use borrow.Author.Rules.{rules}
+use Rattle.node.specs.Laws.ChangeAt.{range_with, range_changed}
 use Rattle.node.proofs.change_at.remove_at.Goals as goal
 
 pub remove-requires : goal.remove-requires
-remove-requires c =
-    let a = c.args in
-    lent_with (λ n. a.k < entry_count n) a.t.now a.i c.node_start-a.result (search rules) (search rules) (search rules)
+remove-requires c = range_with c.args.t.now c.args.i _ _ c.node_range.ensures c.requires.0 (λ n. c.args.k < entry_count n) c.requires.1
 
 pub returns : goal.returns
-returns c =
-    let a = c.args in
-    let start = c.node_start-a in
-    let call = c.remove in
-    lent_changed a.t.now a.i start.result start.ensures c.requires.0 (without a.k) call.ensures
+returns c = range_changed c.args.t.now c.args.i _ _ c.node_range.ensures c.requires.0 (without c.args.k) c.remove.ensures

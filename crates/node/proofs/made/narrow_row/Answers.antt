@@ -1,26 +1,32 @@
-use mathlib.Core.Path.{◌≡◌}
-use lib.ListN.{length}
-use mir.Syntax.{w64}
-use Rattle.whole.specs.Laws.Within.{read_at, widen, word_back}
-use Rattle.words.specs.Words.{row_at}
-use Rattle.words.specs.Laws.Words.{row_at_whole}
-use borrow.Author.Rules.{rules}
+use Rattle.std.proofs.Common.{◌≡◌, List, ℕ, zero, suc, ◌<◌, ℤ, pos, get_or, length, arith, rules}
+use Rattle.whole.specs.Laws.Within.{widen}
+use Rattle.words.proofs.Arrays.{handed, kept_by}
+use Rattle.track.specs.Numbers.{IsEdge}
+use Rattle.track.specs.Inner.Small.{RowInRange}
 use Rattle.node.proofs.made.narrow_row.Goals as goal
 
-pub narrow-requires-3 : goal.narrow-requires-3
-narrow-requires-3 c =
-    rw (read_at w64 c.args.r 2 c.narrow-arg-3-1.given) (widen tt c.requires.low_velocity_in)
+each_in : (r : List ℤ) → RowInRange r → (i : ℕ) → i < 4 → IsEdge (get_or r i (pos 0))
+each_in r in_range zero lt = in_range.low_in
+each_in r in_range (suc zero) lt = in_range.high_in
+each_in r in_range (suc (suc zero)) lt = widen tt in_range.low_velocity_in
+each_in r in_range (suc (suc (suc zero))) lt = widen tt in_range.high_velocity_in
+each_in r in_range (suc (suc (suc (suc i)))) lt = absurd (omega arith)
 
-pub narrow-requires-4 : goal.narrow-requires-4
-narrow-requires-4 c =
-    rw (read_at w64 c.args.r 3 c.narrow-arg-4-1.given) (widen tt c.requires.high_velocity_in)
+pub map-requires : goal.map-requires
+map-requires c =
+    let r = c.args.r in
+    let four : length r ≡ 4 = search rules in (
+      search rules,
+      (
+        search rules,
+        (
+          search rules,
+          record {
+            at = λ xs t q x u yields fold step. let (low, is) = handed (pos 0) xs r yields step in rw is at (each_in r c.requires (length xs) (omega arith));
+          },
+        ),
+      ),
+    )
 
 pub returns : goal.returns
-unfolding row_at
-returns c =
-    let r = c.args.r in
-    let four : length r ≡ 4 = search rules in
-    let read = row_at_whole r four in
-    simp (word_back c.narrow.result c.narrow.type_inv, word_back c.narrow-2.result c.narrow-2.type_inv, word_back c.narrow-3.result c.narrow-3.type_inv, word_back c.narrow-4.result c.narrow-4.type_inv)
-    (rw (c.narrow.ensures, c.narrow-2.ensures, c.narrow-3.ensures, c.narrow-4.ensures)
-    (rw (read_at w64 r 0 c.narrow-arg-1.given, read_at w64 r 1 c.narrow-arg-2-1.given, read_at w64 r 2 c.narrow-arg-3-1.given, read_at w64 r 3 c.narrow-arg-4-1.given) read))
+returns c = kept_by _ _ (λ p x y q called. search rules) _ _ 4 (pos 0) (search rules) c.map.ensures.items

@@ -1,5 +1,5 @@
 use mathlib.Core.Path.{◌≡◌}
-use Rattle.whole.specs.Laws.Within.{back, word_back}
+use Rattle.whole.specs.Laws.Within.{back}
 use Rattle.node.specs.Entry.{entries_of}
 use Rattle.node.specs.WorkedOut.{hull_on}
 use Rattle.node.specs.Inner.Made.{worked_out_bounds}
@@ -22,11 +22,7 @@ pub narrow_row-y-requires : goal.narrow_row-y-requires
 narrow_row-y-requires c =
     rw (y_is (goal.at.narrow_row-y-requires c).After-worked_row-2) (hull_on_kept c.args.leaf 1 (entries_of c.args.child.now) c.requires.0 (λ e m. (c.requires.1 e m).y_in))
 
-pub returns : goal.returns
+pub returns-clause-bounds : goal.returns-clause-bounds
 unfolding worked_out_bounds
-returns c =
-    let stored = word_back c.latest.result c.latest.type_inv in
-    record {
-      value = rw (c.narrow_row-x.ensures, c.narrow_row-y.ensures, x_is (goal.at.returns c).After-worked_row, y_is (goal.at.returns c).After-worked_row-2);
-      until_after = (rw stored c.latest.ensures, rw stored (record { sfits = c.latest.type_inv }));
-    }
+returns-clause-bounds c =
+    rw (c.narrow_row-x.ensures, c.narrow_row-y.ensures, x_is (goal.at.returns-clause-bounds c).After-worked_row, y_is (goal.at.returns-clause-bounds c).After-worked_row-2)

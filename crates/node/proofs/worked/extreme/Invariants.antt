@@ -1,4 +1,4 @@
-use Prim.Native.Nat.{◌-◌, ◌^◌}
+use Prim.Native.Nat.{◌^◌}
 use Rattle.whole.specs.Within.{Within}
 use Rattle.node.specs.Inner.Pass.{outer, reading_of}
 use Rattle.node.specs.Laws.Pass.{EntriesPassed}
@@ -6,6 +6,3 @@ use Rattle.node.proofs.worked.extreme.Given as goal
 
 abbrev pub invariant-loop-k : goal.invariant-loop-k
 invariant-loop-k l = EntriesPassed (outer l.column) (reading_of l.leaf l.axis l.column l.stamp) l.node l.k l.found × Within (2 ^ 42) l.found
-
-abbrev pub decreases-loop-k : goal.decreases-loop-k
-decreases-loop-k l = l.n - l.k

@@ -1,32 +1,22 @@
-use mathlib.Core.Path.{sym, ◌∙◌}
-use native.Mathlib.Omega.{arith}
-use borrow.Author.Rules.{rules}
+use Rattle.std.proofs.Common.{◌∙◌, ap, rules}
+use Rattle.std.proofs.iter.Serving.{serving}
 use Rattle.whole.specs.Laws.Within.{word_back}
-use Rattle.track.specs.Hull.{greater}
-use Rattle.node.specs.Entry.{until_of}
+use Rattle.words.specs.Layout.{entry_at}
+use Rattle.node.specs.Entry.{entries_of, until_of}
 use Rattle.node.specs.Laws.Entry.{count_fits}
-use Rattle.node.specs.Laws.Pass.{passed_none, passed_first, passed_next, passed_all, latest_pass}
+use Rattle.node.specs.Laws.Pass.{latest_pass}
+use Rattle.node.proofs.Chains.{mapped, maxed}
 use Rattle.node.proofs.worked.latest.Goals as goal
 
-pub returns-then-n-eq0 : goal.returns-then-n-eq0
-returns-then-n-eq0 c =
-    let a = c.args in
-    passed_none greater (until_of a.leaf) a.node.now (sym c.count-n.ensures ∙ c.if-n-eq0.true) ∙ latest_pass a.leaf _
-
-pub loop-k-init : goal.loop-k-init
-loop-k-init c = let u = c.until-found in passed_first (search rules) (word_back u.result u.type_inv ∙ u.ensures)
-
-pub until-requires : goal.until-requires
-until-requires c = omega (arith, count_fits c.args.node.now)
-
-pub loop-k-preserved : goal.loop-k-preserved
-loop-k-preserved c =
-    let u = c.until in
-    let l = c.later-found in
-    let e = simp (word_back u.result u.type_inv) at l.ensures in
-    passed_next c.loop-k.invariant (search rules) (word_back l.result l.type_inv ∙ e ∙ rw u.ensures)
+pub max-requires-clause-can : goal.max-requires-clause-can
+max-requires-clause-can c = let few = count_fits c.args.node.now in grind serving
 
 pub returns : goal.returns
 returns c =
-    let a = c.args in
-    passed_all c.loop-k.invariant (search rules) ∙ latest_pass a.leaf _
+    let node = c.args.node.now in
+    let value = until_of c.args.leaf in
+    let (p, from, whole, greatest) = c.max.ensures.runs in
+    let (q, starts, is_map) = c.map.ensures.runs p p.seen from in
+    let calls = is_map.3 (λ k. value (entry_at node k)) (λ x r f' called. (search rules, search rules)) in
+    let items = mapped value node q p.items (is_map.0 ∙ whole) (ap (λ r. r.start) starts) (ap (λ r. r.end) starts ∙ c.count.ensures) calls in
+    word_back _ c.unwrap_or.type_inv ∙ c.unwrap_or.ensures ∙ maxed value p (entries_of node) c.max.result items greatest ∙ latest_pass c.args.leaf (entries_of node)

@@ -10,7 +10,7 @@ use Rattle.node.specs.Entry.{entries_of}
 use Rattle.node.specs.Inner.Pass.{extreme_of}
 use Rattle.node.specs.Laws.Pass.{hull_passes}
 use Rattle.node.proofs.worked.worked_row.Goals as goal
-use Rattle.node.proofs.worked.worked_row.Goals.{Start, After-wide-minute, After-extreme-lowest, After-extreme-highest, After-extreme, After-extreme-2}
+use Rattle.node.proofs.worked.worked_row.Goals.{Start, After-from-minute, After-extreme-lowest, After-extreme-highest, After-extreme, After-extreme-2}
 
 abbrev over : Start → ℕ → ℤ
 over s column = extreme_of s.args.leaf s.args.axis column s.args.stamp (entries_of s.args.node.now)
@@ -22,8 +22,8 @@ Read r z = (to_z w64 (of_z w64 r) ≡ z) × Within (2 ^ 42) z
 read : {r z : ℤ} → (r ≡ z) × Within (2 ^ 42) r → Read r z
 read h = (read64 tt h.1 ∙ h.0, rw h.0 at h.1)
 
-minute_is : (c : After-wide-minute) → to_z w64 (of_z w64 c.wide-minute.result) ≡ c.args.stamp
-minute_is c = simp (c.wide-minute.ensures, back c.ranges.stamp) (read64 tt (minute_in c.requires.1))
+minute_is : (c : After-from-minute) → to_z w64 (of_z w64 c.from-minute.result) ≡ c.args.stamp
+minute_is c = simp (c.from-minute.ensures, back c.ranges.stamp) (read64 tt (minute_in c.requires.1))
 
 lowest : (c : After-extreme-lowest) → Read c.extreme-lowest.result (over c.before.before 2)
 lowest c = read (simp (back c.ranges.stamp) at c.extreme-lowest.ensures)

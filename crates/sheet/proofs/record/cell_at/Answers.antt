@@ -1,11 +1,12 @@
-use mathlib.Core.Path.{sym}
+use mathlib.Core.Path.{sym, ◌∙◌}
 use Rattle.whole.specs.Laws.Within.{word_back}
+use Rattle.track.proofs.Laws.DefaultCell.{default_cell}
 use Rattle.sheet.specs.Sheet.{cell_from}
 use Rattle.sheet.specs.Laws.Sheet.{cell_past}
 use Rattle.sheet.proofs.record.cell_at.Goals as goal
 
 pub returns-then-bytes-k : goal.returns-then-bytes-k
-returns-then-bytes-k c = sym (cell_past c.args.bytes.now c.args.k c.if-bytes-k.true)
+returns-then-bytes-k c = default_cell c.default.ensures ∙ sym (cell_past c.args.bytes.now c.args.k c.if-bytes-k.true)
 
 pub returns : goal.returns
 unfolding cell_from

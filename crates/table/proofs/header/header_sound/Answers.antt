@@ -1,15 +1,11 @@
-use mathlib.Core.Path.{◌∙◌, ap}
+use Rattle.std.proofs.Common.{arith}
+use Rattle.std.proofs.lemmas.Grind.{common_steps}
+use Rattle.whole.specs.Laws.Order.{le_z_tells}
+use Rattle.whole.specs.Laws.Tells.{tells_as}
 use Rattle.whole.specs.Laws.Within.{word_back}
-use Rattle.table.specs.Header.{words_for}
-use Rattle.table.specs.Laws.SoundBy.{header_tells}
 use Rattle.table.proofs.header.header_sound.Goals as goal
 
-pub returns : goal.returns
-returns c =
-    let cells = c.capacity-cells.ensures.0 in
-    simp (word_back c.word-2.result c.word-2.type_inv ∙ c.word-2.ensures)
-    (header_tells _
-    (simp (word_back c.word-3.result c.word-3.type_inv ∙ c.word-3.ensures) at c.is_capacity.ensures)
-    (simp (word_back c.clock.result c.clock.type_inv ∙ c.clock.ensures) at c.is_minute.ensures)
-    (c.words_for.ensures ∙ ap words_for cells)
-    (simp (word_back c.word.result c.word.type_inv ∙ c.word.ensures, cells) at c.is_node.ensures))
+pub returns-then-is_node : goal.returns-then-is_node
+returns-then-is_node c =
+    rw (word_back c.word-then-is_node.result c.word-then-is_node.type_inv, c.word-then-is_node.ensures)
+    (tells_as le_z_tells (λ tall. record { capacity_in = grind (arith, common_steps, word_back); clock_in = grind (arith, common_steps, word_back); long_enough = grind (arith, common_steps); root_in = grind (arith, common_steps, word_back); height_in = tall }) (λ h. h.height_in))

@@ -1,11 +1,6 @@
-use native.Mathlib.Omega.{arith}
-use lib.ListN.{length-set}
 use Rattle.whole.specs.Laws.Within.{word_back}
 use Rattle.table.specs.Laws.Headed.{rooted}
 use Rattle.table.proofs.header.set_root.Goals as goal
-
-pub bounds-t-3 : goal.bounds-t-3
-bounds-t-3 c = simp length-set (omega (arith, c.requires.0))
 
 pub returns : goal.returns
 returns c =

@@ -1,15 +1,12 @@
-use Rattle.whole.specs.Laws.Tells.{tells_false, passed, failed}
+use Rattle.whole.specs.Laws.Tells.{tells_false, failed}
 use Rattle.table.specs.Laws.SoundBy.{header_is_sound, root_of}
 use Rattle.table.proofs.sound.is_sound.Goals as goal
+use Rattle.table.proofs.sound.is_sound.Goals.{then-header_sound, else-header_sound}
 
-pub returns-then-not-header_sound : goal.returns-then-not-header_sound
-returns-then-not-header_sound c = tells_false (λ s. failed c.header_sound.ensures c.if-not-header_sound.true (header_is_sound _ s))
-
-pub root_sound-requires : goal.root_sound-requires
-root_sound-requires c = passed c.header_sound.ensures c.if-not-header_sound.false
-
-pub returns-then-not-root_sound : goal.returns-then-not-root_sound
-returns-then-not-root_sound c = tells_false (λ s. failed c.root_sound.ensures c.if-not-root_sound.true (root_of _ s))
-
-pub tree_sound-requires : goal.tree_sound-requires
-tree_sound-requires c = (passed c.header_sound.ensures c.if-not-header_sound.false, passed c.root_sound.ensures c.if-not-root_sound.false)
+pub returns-else-root_sound : goal.returns-else-root_sound
+returns-else-root_sound c =
+    rw c.if-root_sound.false
+    (elim c.if-header_sound.branch [
+      | then-header_sound w ↦ tells_false (λ s. failed w.root_sound.ensures (cc) (root_of _ s))
+      | else-header_sound w ↦ tells_false (λ s. failed c.header_sound.ensures w.if-header_sound.false (header_is_sound _ s))
+    ])

@@ -1,8 +1,8 @@
-use mathlib.Core.Path.{◌≡◌, sym, ap, ◌∙◌}
-use Prim.Native.Nat.{ℕ, ◌≤◌}
+use mathlib.Core.Path.{◌≡◌, ap, ◌∙◌}
+use Prim.Native.Nat.{ℕ}
 use native.Mathlib.Omega.{arith}
 use lib.ListN.{length, set, length-set}
-use lib.Seq.{length-take-le}
+use Rattle.std.proofs.Common.{Some}
 use Rattle.whole.specs.Laws.Tells.{tells_false, tells_as, passed, failed}
 use Rattle.whole.specs.Laws.Within.{word_back}
 use Rattle.table.specs.Header.{capacity, clock, root, height, entries_at, nodes_for}
@@ -11,7 +11,6 @@ use Rattle.table.specs.Inner.SoundBy.{RootMarked}
 use Rattle.table.specs.Laws.SoundBy.{root_below, root-marked, ready_root, few_cells, passes_of, free_of, keys_of, sound_of}
 use Rattle.table.proofs.sound.judged.Goals as goal
 use Rattle.table.proofs.sound.judged.Goals.{After-pass}
-use Rattle.table.specs.declared.scan.Scan.TheVariants.{Passed}
 
 -- what the pass came to, with the table's own numbers
 outcome : (c : After-pass) → let w = c.args.t.now in
@@ -26,15 +25,10 @@ marked : (c : After-pass) → RootMarked c.args.t.now (set c.args.marks.now (roo
 marked c = root-marked c.requires.0 c.requires.2
 
 -- a pass that counted m cells
-went : (c : After-pass) (m : ℕ) → c.pass.result ≡ Passed m → let w = c.args.t.now in
+went : (c : After-pass) (m : ℕ) → c.pass.result ≡ Some m → let w = c.args.t.now in
     Passes (entries_at w) (NodeCounted w) (capacity w) (clock w) (height w) (entries_at w (root w)) (set c.args.marks.now (root w) 1) 0
     × Leaves (entries_at w) (height w) (entries_at w (root w)) (set c.args.marks.now (root w) 1) c.args.keys.now 0 m c.pass.new.marks c.pass.new.keys
 went c m is = (outcome c).pass m is
-
-m_fits : (c : After-pass) (m : ℕ) → c.pass.result ≡ Passed m → m ≤ length c.pass.new.keys
-m_fits c m is =
-    let p = went c m is in
-    omega (arith, p.0.room, p.1.more, few_cells c.requires.0 c.requires.2, c.requires.2.keys_long, (outcome c).keys_kept)
 
 pub bounds-marks-i : goal.bounds-marks-i
 bounds-marks-i c = rw c.root-i.ensures.0 (root_below c.requires.0 c.requires.2)
@@ -47,37 +41,28 @@ rest_free-requires c =
     let cells = c.capacity-cells.ensures.0 in
     (c.nodes_for.ensures ∙ ap nodes_for cells, c.requires.0.long_enough, omega (arith, cells, few_cells c.requires.0 c.requires.2, c.requires.2.marks_long, marks_kept (goal.at.rest_free-requires c).After-pass))
 
-pub shape_of-marks-then-not-rest_free : goal.shape_of-marks-then-not-rest_free
-shape_of-marks-then-not-rest_free c = marks_kept (goal.at.shape_of-marks-then-not-rest_free c).After-pass
-
-pub returns-then-not-rest_free : goal.returns-then-not-rest_free
-returns-then-not-rest_free c =
-    let pass = (goal.at.returns-then-not-rest_free c).After-pass in
-    let p = went pass c.in-Passed.m c.in-Passed.is in
-    tells_false (λ k. failed c.rest_free.ensures c.if-not-rest_free.true (free_of c.args.t.now _ (marked pass) _ _ _ _ p.0 p.1 k))
-
 pub slice_bounds-distinct-end : goal.slice_bounds-distinct-end
-slice_bounds-distinct-end c = m_fits (goal.at.slice_bounds-distinct-end c).After-pass c.in-Passed.m c.in-Passed.is
+slice_bounds-distinct-end c =
+    let pass = (goal.at.slice_bounds-distinct-end c).After-pass in
+    let p = went pass c.in-Some.m c.in-Some.is in
+    omega (arith, p.0.room, p.1.more, few_cells c.requires.0 c.requires.2, c.requires.2.keys_long, (outcome pass).keys_kept)
 
-pub slice_bounds-distinct-end-in-Passed : goal.slice_bounds-distinct-end-in-Passed
-slice_bounds-distinct-end-in-Passed c = sym (length-take-le _ _ (m_fits (goal.at.slice_bounds-distinct-end-in-Passed c).After-pass c.in-Passed.m c.in-Passed.is))
-
-pub shape_of-marks-in-Bad : goal.shape_of-marks-in-Bad
-shape_of-marks-in-Bad c = marks_kept (goal.at.shape_of-marks-in-Bad c).After-pass
-
-pub returns-in-Bad : goal.returns-in-Bad
-returns-in-Bad c =
-    let pass = (goal.at.returns-in-Bad c).After-pass in
-    tells_false (λ k. (outcome pass).fail c.in-Bad.is (passes_of c.args.t.now _ (marked pass) k))
-
-pub shape_of-marks-else-not-rest_free : goal.shape_of-marks-else-not-rest_free
-shape_of-marks-else-not-rest_free c = marks_kept (goal.at.shape_of-marks-else-not-rest_free c).After-pass
-
-pub returns-else-not-rest_free : goal.returns-else-not-rest_free
-returns-else-not-rest_free c =
-    let pass = (goal.at.returns-else-not-rest_free c).After-pass in
-    let p = went pass c.in-Passed.m c.in-Passed.is in
-    let free = passed c.rest_free.ensures c.if-not-rest_free.false in
+pub returns-then-rest_free : goal.returns-then-rest_free
+returns-then-rest_free c =
+    let pass = (goal.at.returns-then-rest_free c).After-pass in
+    let p = went pass c.in-Some.m c.in-Some.is in
+    let free = passed c.rest_free.ensures c.if-rest_free.true in
     tells_as c.distinct.ensures.tells
     (sound_of c.args.t.now _ (marked pass) _ _ _ _ p.0 p.1 c.requires.0 c.requires.1 free)
     (keys_of c.args.t.now _ (marked pass) _ _ _ _ p.0 p.1)
+
+pub returns-else-rest_free : goal.returns-else-rest_free
+returns-else-rest_free c =
+    let pass = (goal.at.returns-else-rest_free c).After-pass in
+    let p = went pass c.in-Some.m c.in-Some.is in
+    rw c.if-rest_free.false (tells_false (λ k. failed c.rest_free.ensures c.if-rest_free.false (free_of c.args.t.now _ (marked pass) _ _ _ _ p.0 p.1 k)))
+
+pub returns-in-None : goal.returns-in-None
+returns-in-None c =
+    let pass = (goal.at.returns-in-None c).After-pass in
+    tells_false (λ k. (outcome pass).fail c.in-None.is (passes_of c.args.t.now _ (marked pass) k))

@@ -9,7 +9,7 @@ use Rattle.track.specs.Inner.Decides.{gap_at, gap_by}
 use Rattle.track.proofs.Laws.Small.{gap_at_in, gap_by_in}
 use Rattle.track.proofs.interval.gap.Goals as goal
 
-module _ (s : goal.After-wide-4) where
+module _ (s : goal.After-from-4) where
   climb_in : Within 200000 (s.args.second -ℤ s.args.first)
   climb_in = sub_in s.requires.1 s.requires.0
 
@@ -52,21 +52,21 @@ module _ (s : goal.After-wide-4) where
   by_in : Within (2 ^ 20) (gap_by s.args.span s.args.first s.args.second s.args.v)
   by_in = gap_by_in s.requires.5 s.requires.0 s.requires.1 s.requires.3
 
-  -- what each call of `wide` gave
-  w_second : to_z w64 (of_z w64 s.wide.result) ≡ s.args.second
-  w_second = simp (s.wide.ensures, r_second) (read64 tt s.requires.1)
+  -- what each call of `from` gave
+  w_second : to_z w64 (of_z w64 s.from.result) ≡ s.args.second
+  w_second = simp (s.from.ensures, r_second) (read64 tt s.requires.1)
 
-  w_first : to_z w64 (of_z w64 s.wide-2.result) ≡ s.args.first
-  w_first = simp (s.wide-2.ensures, r_first) (read64 tt s.requires.0)
+  w_first : to_z w64 (of_z w64 s.from-2.result) ≡ s.args.first
+  w_first = simp (s.from-2.ensures, r_first) (read64 tt s.requires.0)
 
-  w_first2 : to_z w64 (of_z w64 s.wide-3.result) ≡ s.args.first
-  w_first2 = simp (s.wide-3.ensures, r_first) (read64 tt s.requires.0)
+  w_first2 : to_z w64 (of_z w64 s.from-3.result) ≡ s.args.first
+  w_first2 = simp (s.from-3.ensures, r_first) (read64 tt s.requires.0)
 
-  w_at : to_z w64 (of_z w64 s.wide-4.result) ≡ s.args.at
-  w_at = simp (s.wide-4.ensures, r_at) (read64 tt s.requires.2)
+  w_at : to_z w64 (of_z w64 s.from-4.result) ≡ s.args.at
+  w_at = simp (s.from-4.ensures, r_at) (read64 tt s.requires.2)
 
-w_v : (c : goal.After-wide-5) → to_z w64 (of_z w64 c.wide-5.result) ≡ c.args.v
-w_v c = simp (c.wide-5.ensures, back c.ranges.v) (read64 tt c.requires.3)
+w_v : (c : goal.After-from-5) → to_z w64 (of_z w64 c.from-5.result) ≡ c.args.v
+w_v c = simp (c.from-5.ensures, back c.ranges.v) (read64 tt c.requires.3)
 
 ruleset reads = (r_start, r_span, r_climb, r_apart, r_spread, r_lead, r_run, w_second, w_first, w_first2, w_at, w_v)
 

@@ -16,7 +16,7 @@ use Rattle.track.specs.declared.queries.Query.{Query}
 use Rattle.track.proofs.meeting.meets.Goals as goal
 use Rattle.track.proofs.meeting.meets.Goals.{After-along-on_x, After-along-on_both}
 
--- a minute that `wide` made wider, and the span
+-- a minute in 64 bits, and the span
 told : {z : ℤ} (m : ℤ) → Within 1440 m → z ≡ to_z w32 (of_z w32 m) → to_z w64 (of_z w64 z) ≡ m
 told m in_day e = simp (e, read32 tt in_day) (read64 tt in_day)
 
@@ -29,14 +29,14 @@ on_x_small b_in q_in = along_small _ _ _ _ _ (minute_in q_in.start_in) (span_in 
 pub along-on_x-requires : goal.along-on_x-requires
 along-on_x-requires c =
     let q_in = c.requires.2 in
-    simp (told c.args.q.start.at (minute_in q_in.start_in) c.wide-start.ensures, told c.args.q.end.at (minute_in q_in.end_in) c.wide.ensures, told_span q_in c.span-minutes.ensures)
+    simp (told c.args.q.start.at (minute_in q_in.start_in) c.from-start.ensures, told c.args.q.end.at (minute_in q_in.end_in) c.from.ensures, told_span q_in c.span-minutes.ensures)
     (whole_small q_in, q_in.x_in, c.requires.0.x_in, minute_in q_in.start_in, span_in q_in)
 
 -- what the first call of `along` left
 on_x : (c : After-along-on_x) → c.along-on_x.result ≡ interval_on_x c.args.b c.args.q
 on_x c =
     let q_in = c.requires.2 in
-    simp (told c.args.q.start.at (minute_in q_in.start_in) c.wide-start.ensures, told c.args.q.end.at (minute_in q_in.end_in) c.wide.ensures, told_span q_in c.span-minutes.ensures)
+    simp (told c.args.q.start.at (minute_in q_in.start_in) c.from-start.ensures, told c.args.q.end.at (minute_in q_in.end_in) c.from.ensures, told_span q_in c.span-minutes.ensures)
     at c.along-on_x.ensures
 
 pub lives-requires : goal.lives-requires
@@ -51,7 +51,7 @@ returns-then-not-lives c =
 pub along-on_both-requires : goal.along-on_both-requires
 along-on_both-requires c =
     let q_in = c.requires.2 in
-    simp (on_x (goal.at.along-on_both-requires c).After-along-on_x, told c.args.q.start.at (minute_in q_in.start_in) c.wide-start.ensures, told_span q_in c.span-minutes.ensures)
+    simp (on_x (goal.at.along-on_both-requires c).After-along-on_x, told c.args.q.start.at (minute_in q_in.start_in) c.from-start.ensures, told_span q_in c.span-minutes.ensures)
     (on_x_small c.requires.0 q_in, q_in.y_in, c.requires.0.y_in, minute_in q_in.start_in, span_in q_in)
 
 -- and the second
@@ -59,7 +59,7 @@ on_both : (c : After-along-on_both) (x : c.along-on_x.result ≡ interval_on_x c
 unfolding meeting_of
 on_both c x =
     let q_in = c.requires.2 in
-    simp (x, told c.args.q.start.at (minute_in q_in.start_in) c.wide-start.ensures, told_span q_in c.span-minutes.ensures) at c.along-on_both.ensures
+    simp (x, told c.args.q.start.at (minute_in q_in.start_in) c.from-start.ensures, told_span q_in c.span-minutes.ensures) at c.along-on_both.ensures
 
 pub lives-requires-2 : goal.lives-requires-2
 lives-requires-2 c =

@@ -8,7 +8,7 @@ use Rattle.track.specs.Laws.Numbers.{minute_in}
 use Rattle.track.proofs.Laws.Decides.{span_one, span_minutes}
 use Rattle.track.proofs.meeting.span.Goals as goal
 
-module _ (s : goal.After-wide-2) where
+module _ (s : goal.After-from-2) where
   r_start : to_z w32 (of_z w32 s.args.q.start.at) ≡ s.args.q.start.at
   r_start = read32 tt (minute_in s.requires.start_in)
 
@@ -21,11 +21,11 @@ module _ (s : goal.After-wide-2) where
   r_minutes : to_z w64 (of_z w64 (s.args.q.end.at -ℤ s.args.q.start.at)) ≡ s.args.q.end.at -ℤ s.args.q.start.at
   r_minutes = read64 tt minutes_in
 
-w_end : (c : goal.After-wide-2) → to_z w64 (of_z w64 c.wide.result) ≡ c.args.q.end.at
-w_end c = simp (c.wide.ensures, r_end) (read64 tt (minute_in c.requires.end_in))
+w_end : (c : goal.After-from-2) → to_z w64 (of_z w64 c.from.result) ≡ c.args.q.end.at
+w_end c = simp (c.from.ensures, r_end) (read64 tt (minute_in c.requires.end_in))
 
-w_start : (c : goal.After-wide-2) → to_z w64 (of_z w64 c.wide-2.result) ≡ c.args.q.start.at
-w_start c = simp (c.wide-2.ensures, r_start) (read64 tt (minute_in c.requires.start_in))
+w_start : (c : goal.After-from-2) → to_z w64 (of_z w64 c.from-2.result) ≡ c.args.q.start.at
+w_start c = simp (c.from-2.ensures, r_start) (read64 tt (minute_in c.requires.start_in))
 
 ruleset reads = (r_minutes, w_end, w_start)
 

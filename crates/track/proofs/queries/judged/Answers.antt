@@ -7,7 +7,6 @@ use Rattle.whole.specs.Laws.Within.{back, word_back}
 use Rattle.whole.specs.Laws.Order.{lt_z_true, lt_z_false}
 use Rattle.whole.specs.Tells.{Tells}
 use Rattle.whole.specs.Laws.Tells.{passed, failed, tells_either}
-use Rattle.track.specs.Laws.Refusals.{not_zero}
 use Rattle.track.specs.Query.{Crossed}
 use Rattle.track.specs.declared.queries.Query.{Query}
 use Rattle.track.proofs.queries.judged.Goals as goal
@@ -17,7 +16,7 @@ against : (backward : Bool) {x y : Bool} (q : Query) → Tells x (Crossed q.x) �
 against backward q on_x on_y = tells_either {a = backward} (record { sure = λ t. t; seen = λ t. t }) (tells_either on_x on_y)
 
 pub returns-then-not-query_in_range : goal.returns-then-not-query_in_range
-returns-then-not-query_in_range c = record { refusal = inl (failed c.query_in_range.ensures c.if-not-query_in_range.true, refl); query = not_zero 3 }
+returns-then-not-query_in_range c = record { refusal = inl (failed c.query_in_range.ensures c.if-not-query_in_range.true, refl); query = tt }
 
 pub returns-then-q-clock : goal.returns-then-q-clock
 returns-then-q-clock c = record {
@@ -26,20 +25,20 @@ returns-then-q-clock c = record {
         λ f. f (passed c.query_in_range.ensures c.if-not-query_in_range.false),
         inl (lt_z_true (simp (word_back c.args.q.start.at c.well_formed.1.1.0.1.1.0.1.1.0.1, back c.ranges.clock) at c.if-q-clock.true), refl),
       );
-  query = not_zero 4;
+  query = tt;
 }
 
-pub returns-then-backward-crossing : goal.returns-then-backward-crossing
-returns-then-backward-crossing c = record {
+pub returns-then-backward-crossed : goal.returns-then-backward-crossed
+returns-then-backward-crossed c = record {
   refusal =
       inr (
         λ f. f (passed c.query_in_range.ensures c.if-not-query_in_range.false),
         inr (
           λ e. clash_ℤ e (lt_z_false (simp (word_back c.args.q.start.at c.well_formed.1.1.0.1.1.0.1.1.0.1, back c.ranges.clock) at c.if-q-clock.false)),
-          inl (passed (against c.args.backward c.args.q c.crossed.ensures c.crossed-2.ensures) c.if-backward-crossing.true, refl),
+          inl (passed (against c.args.backward c.args.q c.crossed.ensures c.crossed-2.ensures) c.if-backward-crossed.true, refl),
         ),
       );
-  query = not_zero 6;
+  query = tt;
 }
 
 pub returns : goal.returns
@@ -49,8 +48,8 @@ returns c = record {
         λ f. f (passed c.query_in_range.ensures c.if-not-query_in_range.false),
         inr (
           λ e. clash_ℤ e (lt_z_false (simp (word_back c.args.q.start.at c.well_formed.1.1.0.1.1.0.1.1.0.1, back c.ranges.clock) at c.if-q-clock.false)),
-          inr (failed (against c.args.backward c.args.q c.crossed.ensures c.crossed-2.ensures) c.if-backward-crossing.false, refl),
+          inr (failed (against c.args.backward c.args.q c.crossed.ensures c.crossed-2.ensures) c.if-backward-crossed.false, refl),
         ),
       );
-  query = λ e. refl;
+  query = refl;
 }

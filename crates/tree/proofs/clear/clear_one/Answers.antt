@@ -2,7 +2,7 @@ use mathlib.Core.Path.{◌≡◌}
 use Rattle.whole.specs.Laws.Within.{back}
 use Rattle.table.specs.Header.{root, height}
 use Rattle.tree_nodes.specs.Inner.Takes.{Takes}
-use Rattle.tree.specs.Laws.Clear.{can_take_root, taken_loose, cleared_one, clears_none, clears_one}
+use Rattle.tree.specs.Laws.Clear.{taken_loose, cleared_one, clears_none, clears_one}
 use Rattle.tree.proofs.clear.clear_one.Goals as goal
 use Rattle.tree.proofs.clear.clear_one.Goals.{After-height-h, After-root-i, After-take_out}
 
@@ -15,9 +15,6 @@ root_is c = c.root-i.ensures.0
 
 tried : (c : After-take_out) → let a = c.args in let w = a.t.now in Takes w a.minute a.id (height w) (root w) 0 c.take_out.result c.take_out.new.t
 tried c = simp (back c.ranges.minute, back c.ranges.id, height_is c.before.before.before, root_is c.before.before) at c.take_out.ensures
-
-pub take_out-requires : goal.take_out-requires
-take_out-requires c = simp (back c.ranges.minute, height_is (goal.at.take_out-requires c).After-height-h, root_is (goal.at.take_out-requires c).After-root-i) (can_take_root c.requires)
 
 pub returns-then-not-take_out : goal.returns-then-not-take_out
 returns-then-not-take_out c = clears_none (tried (goal.at.returns-then-not-take_out c).After-take_out) c.if-not-take_out.true

@@ -1,4 +1,4 @@
-use mathlib.Core.Path.{◌≡◌, refl, ap, ◌∙◌}
+use mathlib.Core.Path.{◌≡◌, ap, ◌∙◌}
 use Prim.Native.Nat.{suc, ◌-◌}
 use native.Mathlib.Omega.{arith}
 use lib.ListN.{length, take}
@@ -7,7 +7,7 @@ use Rattle.table.specs.Header.{root, height, entries_at}
 use Rattle.table.specs.Laws.AtNode.{changed_at}
 use Rattle.table.specs.Inner.Headed.{Rooted}
 use Rattle.tree_nodes.specs.Inner.PartChild.{child_at}
-use Rattle.tree.specs.Laws.Settle.{settled_none, root_in_table, long, child_low, settled_way}
+use Rattle.tree.specs.Laws.Settle.{long, child_low, settled_way}
 use Rattle.tree.proofs.clear.settle_root.Goals as goal
 use Rattle.tree.proofs.clear.settle_root.Goals.{After-height-h, Else-h-eq0, After-root-i, After-count_at, Else-count_at-ge2, After-child_at-child, After-keep_at, After-set_root}
 
@@ -39,16 +39,6 @@ freed c =
 
 rooted_is : (c : After-set_root) → let w = c.args.t.now in Rooted c.keep_at.new.t c.child_at-child.result (height w - 1) c.set_root.new.t
 rooted_is c = rw (height_is c.before.before.before.before.before.before.before.before.before.before) at c.set_root.ensures
-
-pub returns-then-h-eq0 : goal.returns-then-h-eq0
-returns-then-h-eq0 c = settled_none (λ inner. absurd (omega (arith, height_is (goal.at.returns-then-h-eq0 c).After-height-h, c.if-h-eq0.true)))
-
-pub returns-then-count_at-ge2 : goal.returns-then-count_at-ge2
-returns-then-count_at-ge2 c = settled_none (λ inner. omega (arith, count_is (goal.at.returns-then-count_at-ge2 c).After-count_at, c.if-count_at-ge2.true))
-
-pub child_at-child-requires : goal.child_at-child-requires
-child_at-child-requires c =
-    rw (root_is (goal.at.child_at-child-requires c).After-root-i) (root_in_table c.requires.loose (tall (goal.at.child_at-child-requires c).Else-h-eq0) (one (goal.at.child_at-child-requires c).Else-count_at-ge2) refl, omega (arith, one (goal.at.child_at-child-requires c).Else-count_at-ge2))
 
 pub set_root-requires : goal.set_root-requires
 set_root-requires c =

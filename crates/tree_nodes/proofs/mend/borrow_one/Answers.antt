@@ -1,6 +1,5 @@
 use mathlib.Core.Path.{◌≡◌}
 use Prim.Native.Nat.{◌≤◌}
-use native.Mathlib.Omega.{arith}
 use lib.ListN.{length, set}
 use Rattle.whole.specs.Laws.Within.{back}
 use Rattle.node.specs.Inner.ChangeAt.{Changed}
@@ -41,9 +40,6 @@ pub count_at-last-requires : goal.count_at-last-requires
 count_at-last-requires c =
     let p = c.requires.0 in
     ample_in p.can.ample c.child_at-sibling.result (sibling_low p.can (child_is (goal.at.count_at-last-requires c).After-child_at-child) p.b_has p.b_other (sibling_is (goal.at.count_at-last-requires c).After-child_at-sibling))
-
-pub overflow_sub-last : goal.overflow_sub-last
-overflow_sub-last c = omega (arith, four (goal.at.overflow_sub-last c).After-child_at-sibling, c.count_at-last.ensures)
 
 pub move_entry-requires : goal.move_entry-requires
 move_entry-requires c = can_borrow c.requires.0 (child_is (goal.at.move_entry-requires c).After-child_at-child) (sibling_is (goal.at.move_entry-requires c).After-child_at-sibling) (four (goal.at.move_entry-requires c).After-child_at-sibling) c.count_at-last.ensures

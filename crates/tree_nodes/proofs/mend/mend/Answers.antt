@@ -8,7 +8,7 @@ use Rattle.table.specs.Laws.ScanParts.{leaf_test}
 use Rattle.tree_nodes.specs.Laws.Kept.{ample_in}
 use Rattle.tree_nodes.specs.Inner.PartChild.{child_at}
 use Rattle.tree_nodes.specs.Inner.Mend.{CanPair}
-use Rattle.tree_nodes.proofs.Laws.Mend.{child_low, sibling_low, child_in_range, can_refresh, mends_refresh}
+use Rattle.tree_nodes.proofs.Laws.Mend.{sibling_low, child_in_range, can_refresh, mends_refresh}
 use Rattle.tree_nodes.proofs.mend.mend.Goals as goal
 use Rattle.tree_nodes.proofs.mend.mend.Goals.{After-child_at-child, Else-count_at-ge-FEWEST, After-beside-b, After-child_at-sibling}
 
@@ -26,9 +26,6 @@ pair c =
 sibling_is : (c : After-child_at-sibling) → let a = c.args in c.child_at-sibling.result ≡ child_at (entries_at a.t.now) a.i c.beside-b.result
 sibling_is c = c.child_at-sibling.ensures
 
-pub count_at-requires : goal.count_at-requires
-count_at-requires c = ample_in c.requires.ample c.child_at-child.result (child_low c.requires (child_is (goal.at.count_at-requires c).After-child_at-child))
-
 pub refresh-requires : goal.refresh-requires
 refresh-requires c =
     let is = child_is (goal.at.refresh-requires c).After-child_at-child in
@@ -38,24 +35,7 @@ pub returns-then-count_at-ge-FEWEST : goal.returns-then-count_at-ge-FEWEST
 returns-then-count_at-ge-FEWEST c =
     mends_refresh c.requires (child_is (goal.at.returns-then-count_at-ge-FEWEST c).After-child_at-child) (omega (arith, c.count_at.ensures, c.if-count_at-ge-FEWEST.true)) (simp (back c.ranges.minute, leaf_test) at c.refresh.ensures)
 
-pub child_at-sibling-requires : goal.child_at-sibling-requires
-child_at-sibling-requires c = (ample_in c.requires.ample c.args.i c.requires.node_in, (pair (goal.at.child_at-sibling-requires c).After-beside-b).b_has)
-
 pub count_at-requires-2 : goal.count_at-requires-2
 count_at-requires-2 c =
     let p = pair (goal.at.count_at-requires-2 c).After-beside-b in
     ample_in c.requires.ample c.child_at-sibling.result (sibling_low p.can (child_is (goal.at.count_at-requires-2 c).After-child_at-child) p.b_has p.b_other (sibling_is (goal.at.count_at-requires-2 c).After-child_at-sibling))
-
-pub borrow_one-requires : goal.borrow_one-requires
-borrow_one-requires c =
-    simp (back c.ranges.minute) (pair (goal.at.borrow_one-requires c).After-beside-b, rw (← sibling_is (goal.at.borrow_one-requires c).After-child_at-sibling) (omega (arith, c.count_at-2.ensures, c.if-count_at-gt-FEWEST.true)))
-
-pub returns-then-count_at-gt-FEWEST : goal.returns-then-count_at-gt-FEWEST
-returns-then-count_at-gt-FEWEST c = simp (back c.ranges.minute) at c.borrow_one.ensures
-
-pub join-requires : goal.join-requires
-join-requires c =
-    simp (back c.ranges.minute) (pair (goal.at.join-requires c).After-beside-b, rw (← sibling_is (goal.at.join-requires c).After-child_at-sibling) (omega (arith, c.count_at-2.ensures, c.if-count_at-gt-FEWEST.false)))
-
-pub returns : goal.returns
-returns c = simp (back c.ranges.minute) at c.join.ensures

@@ -1,7 +1,6 @@
 use Rattle.std.proofs.Common.{ℕ, suc, ◌≡◌, ◌-◌, [], ◌∷◌, ◌++◌, subst, arith}
 use lib.ListN.{set}
 use Rattle.whole.specs.Laws.Within.{back}
-use Rattle.words.specs.Layout.{InTable}
 use Rattle.node.specs.Inner.ChangeAt.{Changed}
 use Rattle.node.specs.Inner.Made.{leaf_entry}
 use Rattle.node.specs.Laws.Made.{cell_leaf}
@@ -55,14 +54,6 @@ returns-then-h-eq0 t c =
 
 pub way_down-k-requires : goal.way_down-k-requires
 way_down-k-requires t c = simp (back c.ranges.minute) (inner_can t (goal.at.way_down-k-requires t c).Else-h-eq0)
-
-pub child_at-child-requires : goal.child_at-child-requires
-child_at-child-requires t c =
-    let at = goal.at.child_at-child-requires t c in
-    let can = inner_can t at.Else-h-eq0 in
-    let way = way_is t at.After-way_down-k in
-    let fits : InTable c.way_down-k.new.t c.args.i = rw way.kept.same_length (ample_in can.ample c.args.i can.node_in) in
-    (fits, way.has)
 
 pub put_in-requires : goal.put_in-requires
 put_in-requires t c =

@@ -55,9 +55,6 @@ part_child-requires c =
 stays : (c : After-part_child) → c.best_child-k.result < length (entries_at c.part_child.new.t c.args.i)
 stays c = (way_parted c.requires (chosen c.before.before.before.before.before) (parted_is c) (inl refl)).has
 
-pub overflow_sub-last : goal.overflow_sub-last
-overflow_sub-last c = omega (arith, stays (goal.at.overflow_sub-last c).After-part_child, c.count_at-last.ensures)
-
 pub better_child-requires : goal.better_child-requires
 better_child-requires c =
     let most = at_most c.part_child.new.t c.args.i in

@@ -31,7 +31,7 @@ module _ {i : Interval} (s : Small i) where
   r_end_lod : {expiry : ℤ} → Within 1440 expiry → to_z w64 (of_z w64 (expiry *ℤ i.lod)) ≡ expiry *ℤ i.lod
   r_end_lod h = read64 tt (mul_in h s.lod_in)
 
--- what the call of `wide` gave
+-- what the call of `from` gave
 told : {expiry result : ℤ} → SFits w32 expiry → Within 1440 expiry → result ≡ to_z w32 (of_z w32 expiry) → to_z w64 (of_z w64 result) ≡ expiry
 told f h e = simp (e, back f) (read64 tt h)
 
@@ -50,13 +50,13 @@ overflow_mul-self-2 c =
 pub overflow_mul-result : goal.overflow_mul-result
 overflow_mul-result c =
     let small = c.requires.0 in
-    simp (told c.ranges.expiry c.requires.1 c.wide.ensures, reads) (fits tt (mul_in c.requires.1 small.lod_in))
+    simp (told c.ranges.expiry c.requires.1 c.from.ensures, reads) (fits tt (mul_in c.requires.1 small.lod_in))
 
 pub returns-then-self : goal.returns-then-self
 returns-then-self c =
     let small = c.requires.0 in
     let soon = c.requires.1 in
-    simp (told c.ranges.expiry soon c.wide.ensures, reads) (lives_in_order _ _ (simp reads at c.if-self.true))
+    simp (told c.ranges.expiry soon c.from.ensures, reads) (lives_in_order _ _ (simp reads at c.if-self.true))
 
 pub returns-else-self : goal.returns-else-self
 returns-else-self c =
