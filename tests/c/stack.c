@@ -2,10 +2,10 @@
  * Measures how much stack the calls take, each on a painted stack of its own, and
  * holds what the headers say to it: enough, and at most three times what was measured.
  * The tables are a full one that reports have made, a sound one with as many entries
- * on the way to one leaf as there can be, since a query takes stack for each entry
- * that it tries, and words that name a chain of all nodes, which the test of soundness
- * follows to its end. Prints what each call took, a line for each check that fails, and
- * last the counts.
+ * on the way to one leaf as there can be, since the search for the next live cell takes
+ * stack for each entry that it tries, and words that name a chain of all nodes, which the
+ * test of soundness follows to its end. Prints what each call took, a line for each
+ * check that fails, and last the counts.
  */
 #define _GNU_SOURCE
 #include "tally.h"

@@ -5,16 +5,14 @@ ghost use Rattle.node.specs.Entry.{child_of};
 ghost use Rattle.table.specs.Header.{entries_at};
 
 use node::entry::{child, count};
-use words::{NODE_WORDS, node_start};
+use words::node_range;
 
 // The words of node i.
 pub fn node_at(t: &[i32], i: usize) -> &[i32]
     requires { InTable t.now i }
     ensures { result.now ≡ node_at t.now i }
 {
-    let a = node_start(i);
-    let e = a + NODE_WORDS;
-    &t[a..e]
+    &t[node_range(i)]
 }
 
 // How many entries node i has.
