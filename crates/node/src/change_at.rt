@@ -1,5 +1,4 @@
 // The entries of node i of a table, read and changed. The node's words are lent on, so all others are seen to stay as they are.
-// The changes are four: one over what it does to the node would say in its contract twice what it leaves, of the closure and of the table.
 ghost use Rattle.std.specs.Prelude.{◌≡◌, [], ◌∷◌, ◌++◌, ◌+◌, ◌<◌, ◌≤◌, pos, take, set};
 ghost use Rattle.words.specs.Layout.{full_node, node_limit, node_start, node_words, InTable, node_at, entry_at};
 ghost use Rattle.node.specs.Entry.{entry_count_word, entry_count, entries_of};
@@ -7,7 +6,17 @@ ghost use Rattle.node.specs.Inner.Change.{without};
 ghost use Rattle.node.specs.Inner.ChangeAt.{Changed};
 
 use crate::change::{append, keep, put, remove};
-use words::{Entry, entry, node_range};
+use std::ops::Range;
+use words::{Entry, NODE_WORDS, entry, node_start};
+
+// The places of node i's words.
+fn node_range(i: usize) -> Range<usize>
+    requires { i < node_limit }
+    ensures { (result.start ≡ node_start i) × (result.end ≡ node_start i + node_words) }
+{
+    let a = node_start(i);
+    a..a + NODE_WORDS
+}
 
 pub fn entry_at(t: &[i32], i: usize, k: usize) -> Entry
     requires { (InTable t.now i) × (k < full_node) }

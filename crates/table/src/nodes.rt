@@ -5,14 +5,16 @@ ghost use Rattle.node.specs.Entry.{child_of};
 ghost use Rattle.table.specs.Header.{entries_at};
 
 use node::entry::{child, count};
-use words::node_range;
+use words::{NODE_WORDS, node_start};
 
 // The words of node i.
 pub fn node_at(t: &[i32], i: usize) -> &[i32]
     requires { InTable t.now i }
     ensures { result.now ≡ node_at t.now i }
 {
-    &t[node_range(i)]
+    let a = node_start(i);
+    let e = a + NODE_WORDS;
+    &t[a..e]
 }
 
 // How many entries node i has.

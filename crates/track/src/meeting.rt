@@ -62,7 +62,6 @@ pub fn cell_meets(c: Cell, q: Query) -> bool
 }
 
 // What is told of a report and a query on its cell: 1 for yes, 0 for no, else the first refusal's number.
-// It is a number since two calls hand it to C as it is.
 pub fn answer(reported: Result<Cell, Refusal>, asked: Result<Query, Refusal>) -> i32
     requires { (KeptInRange reported) × (TakenInRange asked) }
     ensures { Gives (answers_to reported asked) result }

@@ -8,7 +8,6 @@ ghost use Rattle.words.specs.Layout.{node_start, entry_offset, node_limit, node_
 ghost use Rattle.words.specs.Words.{word_at, nat_of, row_at, rows_at, with_count};
 
 use std::array;
-use std::ops::Range;
 
 // The sizes of specs/Layout.antt, for the code.
 pub const HEADER: usize = 16;
@@ -30,15 +29,6 @@ pub fn node_start(i: usize) -> usize
     ensures { result ≡ node_start i }
 {
     HEADER + NODE_WORDS * i
-}
-
-// The places of node i's words.
-pub fn node_range(i: usize) -> Range<usize>
-    requires { i < node_limit }
-    ensures { (result.start ≡ node_start i) × (result.end ≡ node_start i + node_words) }
-{
-    let a = node_start(i);
-    a..a + NODE_WORDS
 }
 
 // The place of entry k's first word in its node.
@@ -109,8 +99,8 @@ pub fn put_run<T: Copy>(t: &mut [T], at: usize, numbers: &[T])
     t[at..at + numbers.len()].copy_from_slice(numbers);
 }
 
-// Copies the n words from `from` on to the places from `to` on. By a loop: with the library's `copy_within`, which takes any overlap, the
-// must-fail edit overlaps_upward would be no mistake.
+// Copies the n words from `from` on to the places from `to` on. Not by the library's `copy_within`, which takes any overlap: the must-fail edit
+// overlaps_upward is a mistake of this loop.
 pub fn copy_within(t: &mut [i32], from: usize, to: usize, n: usize)
     requires { CanCopy t.old from to n }
     ensures { t.new ≡ put t.old to n (part t.old from n) }

@@ -1,7 +1,12 @@
+use mathlib.Core.Path.{◌≡◌}
 use borrow.Author.Rules.{rules}
-use Rattle.words.specs.Layout.{set_entry}
+use lib.ListN.{length}
+use Rattle.words.specs.Layout.{entry_words, set_entry}
 use Rattle.words.proofs.put_entry.Goals as goal
 
 pub returns : goal.returns
 unfolding set_entry
-returns c = search rules
+returns c =
+    let start = c.entry_offset in
+    let long : length c.args.e ≡ entry_words = search rules in
+    (rw (long, start.ensures) at c.put_run.ensures, long)

@@ -1,6 +1,5 @@
-use borrow.Author.Rules.{rules}
 use Rattle.words.specs.Laws.Parts.{lent_back}
 use Rattle.words.proofs.put_run.Goals as goal
 
 pub returns : goal.returns
-returns g c = search (rules, lent_back)
+returns g c = rw c.copy_from_slice.ensures.after (lent_back c.args.t.now c.args.at _ _)
