@@ -22,7 +22,7 @@ def files(commit, folder, ending):
         names = subprocess.run(["git", "ls-tree", "-r", "--name-only", commit], capture_output=True, text=True, check=True).stdout
         names = names.split("\n")
     else:
-        names = [os.path.join(at, f) for at, dirs, fs in os.walk("crates") if "/out" not in at for f in fs]
+        names = [os.path.join(at, f) for at, dirs, fs in os.walk("crates") if "out" not in at.split(os.sep) for f in fs]
     for name in sorted(names):
         if re.fullmatch(rf"crates/{WORD}/{folder}/.*{ending}", name):
             if commit:

@@ -1,5 +1,5 @@
 -- What the desk has done with what it read.
-use Rattle.std.specs.Prelude.{◌≡◌, ◌⊎◌, Bool, true, false, Option, Some, None, List, [], ℕ, ◌≤◌, ◌<◌, ℤ, length, take}
+use Rattle.std.specs.Prelude.{◌≡◌, ◌⊎◌, Bool, true, false, Option, Some, None, List, ℕ, ◌≤◌, ◌<◌, ℤ, length, take}
 use Rattle.desk_lines.specs.Lines.{NoFeed, last_line}
 use Rattle.desk_lines.specs.LineHeld.{LineHeld}
 use Rattle.desk_serve.specs.Answered.{Session}
@@ -22,12 +22,12 @@ pub record Talked (w : List ℤ) (buffer : List ℕ) (held : ℕ) (piece : List 
 abbrev pub Finished : List ℤ → List ℕ → ℕ → List ℤ → Type 0
 Finished w buffer held v = (answers : List ℕ) × ((rest : List ℕ) → LineHeld buffer held rest → Session w (last_line rest) v answers)
 
--- one turn. `got` is what the read answered: nothing if it failed, else the bytes that came in, none of them at the end of the input.
+-- one turn. `got` is what the read answered: nothing if it failed, 0 at the end of the input, else how many bytes of the piece came in.
 -- `on` says whether the desk goes on reading
-pub record Turned (got : Option (List ℕ)) (w : List ℤ) (buffer : List ℕ) (held : ℕ) (v : List ℤ) (buffer' : List ℕ) (held' : ℕ) (on : Bool) : Type 0 where
+pub record Turned (got : Option ℕ) (w : List ℤ) (buffer : List ℕ) (held : ℕ) (piece : List ℕ) (v : List ℤ) (buffer' : List ℕ) (held' : ℕ) (on : Bool) : Type 0 where
   pub failed : got ≡ None → (v ≡ w) × (buffer' ≡ buffer) × (held' ≡ held) × (on ≡ false)
-  pub ended : got ≡ Some [] → Finished w buffer held v × (buffer' ≡ buffer) × (held' ≡ held) × (on ≡ false)
-  pub came : (piece : List ℕ) → got ≡ Some piece → 0 < length piece → Talked w buffer held piece v buffer' held' on
+  pub ended : got ≡ Some 0 → Finished w buffer held v × (buffer' ≡ buffer) × (held' ≡ held) × (on ≡ false)
+  pub came : (n : ℕ) → got ≡ Some n → 0 < n → n ≤ length piece → Talked w buffer held (take n piece) v buffer' held' on
   pub held_in : held' ≤ length buffer'
 
 -- a whole run, from the table w to v: some bytes came in and were heard one after the other, by which the table became u; and then what was

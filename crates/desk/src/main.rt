@@ -1,7 +1,7 @@
 // The desk: lines from standard input, an answer to each on standard output.
 #![tactic(auto)]
 
-ghost use Rattle.std.specs.Prelude.{◌≡◌, ◌-◌, ◌^◌, pos, length, option_copied};
+ghost use Rattle.std.specs.Prelude.{◌≡◌, ◌-◌, ◌^◌, pos, length};
 ghost use Rattle.table.specs.Header.{words_for};
 ghost use Rattle.table.specs.Fresh.{IsFresh};
 ghost use Rattle.desk_serve.specs.Answered.{desk_cells};
@@ -75,36 +75,38 @@ fn finish(
     say(rt, &out[..written]);
 }
 
-// The bytes that a read puts at the start of the piece, none at the end of the input; `None` where it fails.
-fn read_piece<'a>(rt: &HostRuntime, piece: &'a mut [u8]) -> Option<&'a [u8]>
-    ensures { Moved (length piece.old) (option_copied result) }
+// How many bytes a read puts at the start of the piece, 0 at the end of the input; `None` where it fails.
+fn read_piece(rt: &HostRuntime, piece: &mut [u8]) -> Option<usize>
+    ensures { Moved (length piece.old) result }
 {
-    let n = rt.stdin().read(piece).ok()?;
-    Some(&piece[..n])
+    rt.stdin().read(piece).ok()
 }
 
-// What a read came to. Tells whether to go on reading. A read that fails is no end of the input: what is held then is no last line.
+// What a read came to: `got` is its answer, and the piece has the bytes that came in. Tells whether to go on reading. A read that fails
+// is no end of the input: what is held then is no last line.
 fn turn(
     rt: &HostRuntime,
     t: &mut [i32],
     list: &mut [i32],
     line: &mut [u8],
     held: &mut usize,
-    came: Option<&[u8]>,
+    got: Option<usize>,
+    piece: &[u8],
     out: &mut [u8],
 ) -> bool
     requires { CanServe list.old line.old held.old out.old }
-    ensures { Turned (option_copied came.entry) t.old line.old held.old t.new line.new held.new result }
+    ensures { Turned got t.old line.old held.old piece.now t.new line.new held.new result }
 {
-    let Some(piece) = came else {
+    let Some(n) = got else {
         let _ = eprintln!(rt; "bradawlet: standard input could not be read");
         return false;
     };
-    if piece.is_empty() {
+    let came = n.min(piece.len());
+    if came == 0 {
         finish(rt, t, list, line, *held, out);
         return false;
     }
-    talk(rt, t, list, line, held, piece, out)
+    talk(rt, t, list, line, held, &piece[..came], out)
 }
 
 // A proved loop has to end, and nothing says that the input does: so the turns are counted, up to a number that no run comes to. A
@@ -129,8 +131,8 @@ fn run(
     ensures { Ran t.old line.old held.old t.new line.new held.new }
 {
     for _ in 0..most_turns() {
-        let came = read_piece(rt, piece);
-        if !turn(rt, t, list, line, held, came, out) {
+        let got = read_piece(rt, piece);
+        if !turn(rt, t, list, line, held, got, piece, out) {
             return;
         }
     }

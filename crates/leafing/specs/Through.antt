@@ -1,4 +1,4 @@
--- Leafing through a table from its opening until none is leftwhat comes of it, how many cells there are, and what the lent list holds afterwards.
+-- Leafing through a table from its opening until none is left: what comes of it, how many cells there are, and what the lent list holds afterwards.
 use Rattle.std.specs.Prelude.{◌≡◌, List, [], ◌∷◌, ◌++◌, ℕ, ◌*◌, ◌<◌, ℤ, pos, length, drop}
 use Rattle.track.specs.Refusals.{Reason, ◌when◌, First, number_of}
 use Rattle.track.specs.declared.cell.Cell.{Cell}

@@ -1,9 +1,9 @@
 -- What a read answers, and how many bytes that is.
 use Rattle.std.specs.Prelude.{◌≡◌, Option, Some, None, List, ℕ, ◌≤◌, ℤ, pos, negsuc, min, length, take}
 
--- what a read that is lent n bytes may answer: nothing where it fails, or the bytes that came in, at most n
-abbrev pub Moved : ℕ → Option (List ℕ) → Type 0
-Moved n (Some bytes) = length bytes ≤ n
+-- what a read that is lent n bytes may answer: nothing where it fails, or how many came in, at most n
+abbrev pub Moved : ℕ → Option ℕ → Type 0
+Moved n (Some k) = k ≤ n
 Moved n None = Unit {0}
 
 -- the first n of these bytes are there, and are n
